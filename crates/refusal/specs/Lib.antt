@@ -1,0 +1,2 @@
+-- The meaning of a refusal's number.
+pub mod Layers

@@ -1,0 +1,2 @@
+-- Symbols and messages, as every layer means them.
+pub mod Symbols
