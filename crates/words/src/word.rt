@@ -1,7 +1,7 @@
 // Words of 66 bits: a header and a body of 64 bits.
 ghost use mathlib.Core.Path.{_≡_};
-ghost use Prim.Native.Nat.{_<_};
-ghost use Rattle.words.specs.Types.{listed, high, Low-nibble-tells-type};
+ghost use Prim.Native.Nat.{_%_};
+ghost use Rattle.words.specs.Types.{listed, high};
 ghost use Rattle.words.specs.Raw.{header as header-of, body as body-of};
 ghost use Rattle.words.specs.Words.{raw, Made};
 use crate::control::ControlBody;
@@ -43,12 +43,11 @@ pub fn is_listed(type_byte: u8) -> bool
 
 const HIGHS: [u8; 16] = [0, 0xE, 0xD, 3, 0xB, 5, 6, 8, 7, 9, 0xA, 4, 0xC, 2, 1, 0xF];
 
-// The high nibble of the listed type with this low nibble; 0 where there is none.
+// The high nibble of the type whose low nibble is that of `low`; 0 where no type has it.
 pub fn high_nibble(low: u8) -> u8
-    ensures value { λ r. ⌜ r ≡ high low ⌝ }
-    ensures tells { λ r. ⌜ Low-nibble-tells-type ⌝ }
+    ensures { λ r. ⌜ r ≡ high (low % 16) ⌝ }
 {
-    if low < 16 { HIGHS[low as usize] } else { 0 }
+    HIGHS[(low % 16) as usize]
 }
 
 impl Word {
