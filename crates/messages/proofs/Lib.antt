@@ -8,3 +8,4 @@ pub mod Laws
 pub mod InPlace
 pub mod Symbols
 pub mod Promised
+pub mod Alone

@@ -1,0 +1,3 @@
+-- Lemmas on a port, by topic.
+pub mod Counting
+pub mod Promised
