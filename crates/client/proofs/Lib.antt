@@ -1,0 +1,2 @@
+-- Lemmas on sessions.
+pub mod Finish

@@ -1,0 +1,2 @@
+-- What the client's calls answer.
+pub mod Sessions
