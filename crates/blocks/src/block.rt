@@ -4,6 +4,7 @@ ghost use mathlib.Core.Path.{_≡_};
 ghost use lib.ListN.{getD};
 ghost use Rattle.std.specs.Options.{Cases};
 ghost use Rattle.blocks.specs.Packed.{packed};
+use std::fmt;
 
 // The bits in words of 64, the lowest first: limb 4 holds bit 256 alone.
 #[derive(Clone, Copy, PartialEq, Eq, Debug, Drop)]
@@ -24,5 +25,13 @@ impl Block {
         Some(Block {
             limbs: [a, b, c, d, e],
         })
+    }
+}
+
+// The 257 bits as hexadecimal digits, bit 256 first.
+pub impl fmt::Display for Block as BlockDisplay {
+    fn fmt<W: fmt::Write>(&self, f: &mut fmt::Formatter<W>) -> fmt::Result {
+        let [a, b, c, d, e] = self.limbs;
+        write!(f, "{e:x}{d:016x}{c:016x}{b:016x}{a:016x}")
     }
 }

@@ -1,6 +1,7 @@
 // Why a block has no words.
 ghost use Rattle.blocks.specs.Refusals.{number as number-of, place as place-of};
 use refusal::Refusal;
+use std::error::Error;
 use std::fmt;
 
 // The word in its group, 0 to 3, is the one that shows the fault.
@@ -51,3 +52,5 @@ pub impl fmt::Display for BlockRefusal as BlockRefusalDisplay {
         }
     }
 }
+
+pub impl Error for BlockRefusal as BlockRefusalError {}

@@ -10,7 +10,13 @@ use port::totals::Totals;
 use words::word::Word;
 
 // Writes the words to the line and reads the line `readings` times, however each reading ends; answers the totals.
-pub fn session<C: Code + Drop>(code: C, opening: Totals, words: &mut [Word], line: &mut [u16], readings: usize) -> Result<Totals, PortRefusal>
+pub fn session<C: Code + Drop>(
+    code: C,
+    opening: Totals,
+    words: &mut [Word],
+    line: &mut [u16],
+    readings: usize,
+) -> Result<Totals, PortRefusal>
     ensures { λ r. ⌜ Cases r (λ a. Session (C·Code .model code) opening (readings + 1) a) (λ e. e ≡ PortRefusal.Opening) ⌝ }
 {
     let mut port = Port::open(code, opening)?;

@@ -1,6 +1,7 @@
 // Why a code refuses a call.
 ghost use Rattle.code.specs.Refusals.{number as number-of, place as place-of};
 use refusal::Refusal;
+use std::error::Error;
 use std::fmt;
 
 // A refusal of the code layer. It changes neither the line nor the message place.
@@ -47,3 +48,5 @@ pub impl fmt::Display for CodeRefusal as CodeRefusalDisplay {
         }
     }
 }
+
+pub impl Error for CodeRefusal as CodeRefusalError {}

@@ -8,6 +8,7 @@ use blocks::refusal::BlockRefusalEq;
 use blocks::refusal::BlockRefusalNumbers;
 use blocks::refusal::BlockRefusalPartialEq;
 use refusal::Refusal;
+use std::error::Error;
 use std::fmt;
 
 // A number above 1,023 is no symbol; a block is counted from 0 to 19.
@@ -60,3 +61,5 @@ pub impl fmt::Display for MessageRefusal as MessageRefusalDisplay {
         }
     }
 }
+
+pub impl Error for MessageRefusal as MessageRefusalError {}

@@ -15,6 +15,7 @@ use messages::refusal::MessageRefusalEq;
 use messages::refusal::MessageRefusalNumbers;
 use messages::refusal::MessageRefusalPartialEq;
 use refusal::Refusal;
+use std::error::Error;
 use std::fmt;
 
 // A refusal of a layer below keeps its number and its place.
@@ -93,3 +94,5 @@ pub impl fmt::Display for PortRefusal as PortRefusalDisplay {
         }
     }
 }
+
+pub impl Error for PortRefusal as PortRefusalError {}

@@ -1,6 +1,7 @@
 // Why a header and a body make no word.
 ghost use Rattle.words.specs.Refusals.{number as number-of, place as place-of};
 use refusal::Refusal;
+use std::error::Error;
 use std::fmt;
 
 #[derive(Clone, Copy, PartialEq, Eq, Debug, Drop)]
@@ -34,3 +35,5 @@ pub impl fmt::Display for WordRefusal as WordRefusalDisplay {
         }
     }
 }
+
+pub impl Error for WordRefusal as WordRefusalError {}

@@ -9,6 +9,7 @@ use crate::control::ControlBodyDebug;
 use crate::control::ControlBodyEq;
 use crate::control::ControlBodyPartialEq;
 use crate::refusal::WordRefusal;
+use std::fmt;
 
 // A valid word: header 2 and any body, or header 1 and a body with a listed type.
 #[derive(Clone, Copy, PartialEq, Eq, Debug, Drop)]
@@ -78,6 +79,19 @@ impl Word {
         match *self {
             Word::Data(body) => body,
             Word::Control(control) => control.body,
+        }
+    }
+}
+
+// The kind and the body, the highest hexadecimal digit first.
+pub impl fmt::Display for Word as WordDisplay {
+    fn fmt<W: fmt::Write>(&self, f: &mut fmt::Formatter<W>) -> fmt::Result {
+        match *self {
+            Word::Data(body) => write!(f, "data {body:016x}"),
+            Word::Control(control) => {
+                let body = control.body;
+                write!(f, "control {body:016x}")
+            }
         }
     }
 }

@@ -19,4 +19,4 @@ returns g c =
     let b = c .in-Continue-port .ensures tt in
     let n : length (i .0) ≡ c .args .readings = omega arith in
     finish (g .C·Code .model) (c .args .code) (c .in-Continue-port .port .code) (c .args .opening) (c .in-Continue-port .port .totals) (c .loop-i .port .totals) (c .totals .result) (i .0) _ (c .args .readings)
-      (b .made .0) (b .begins) (c .write .ensures .extends) (i .3) (c .totals .ensures .value) (b .promise) n
+    (b .made .0) (b .begins) (c .write .ensures .extends) (i .3) (c .totals .ensures .value) (b .promise) n
