@@ -37,7 +37,7 @@ impl<C: Code> Port<C> {
         Ok(())
     }
 
-    // Turns the line into the code word near it, fills the words that it codes, and answers how many symbols were wrong.
+    // Turns the line into the code word near it, fills the words that it codes, and answers the distance between the two.
     fn search(&self, line: &mut [u16], words: &mut [Word]) -> Result<usize, PortRefusal>
         requires long { ⌜ length (now line) ≡ C·Code .model (now self .code) .n ⌝ }
         requires small { ⌜ Symbols (now line) ⌝ }
@@ -45,10 +45,10 @@ impl<C: Code> Port<C> {
         ensures { λ r. ⌜ Searched (C·Code .model (now (self .entry) .code)) (now (line .entry)) (now (words .entry)) (now (line .exit)) (now (words .exit)) r ⌝ }
     {
         let mut message = [0u16; 514];
-        let wrong = self.code.mend(line, &mut message)?;
+        let distance = self.code.mend(line, &mut message)?;
         let found = from_message(&message)?;
         words.copy_from_slice(&found);
-        Ok(wrong)
+        Ok(distance)
     }
 
     // The code word is found in a copy of the line, so that a refusal leaves the line as it was.
@@ -61,10 +61,10 @@ impl<C: Code> Port<C> {
         let word = &mut room[0..line.len()];
         word.copy_from_slice(line);
         match self.search(word, words) {
-            Ok(wrong) => {
+            Ok(mended) => {
                 line.copy_from_slice(word);
                 self.totals.accepted += 1;
-                self.totals.mended += wrong as u64;
+                self.totals.mended += mended as u64;
                 Ok(())
             }
             Err(refusal) => {
