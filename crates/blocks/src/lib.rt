@@ -1,7 +1,4 @@
 // Blocks of 257 bits, each the coding of a group of four words.
 pub mod block;
 pub mod reading;
-pub mod refusal;
-#[cfg(test)]
-mod tests;
-pub mod writing;
+pub mod refusal;pub mod writing;

@@ -1,11 +1,11 @@
-// Worked examples, and every type in every place of a group.
-use crate::block::Block;
-use crate::block::BlockDebug;
-use crate::block::BlockPartialEq;
-use crate::refusal::BlockRefusal;
-use crate::refusal::BlockRefusalDebug;
-use crate::refusal::BlockRefusalNumbers;
-use crate::refusal::BlockRefusalPartialEq;
+// Words and blocks: worked examples, and every type in every place of a group.
+use blocks::block::Block;
+use blocks::block::BlockDebug;
+use blocks::block::BlockPartialEq;
+use blocks::refusal::BlockRefusal;
+use blocks::refusal::BlockRefusalDebug;
+use blocks::refusal::BlockRefusalNumbers;
+use blocks::refusal::BlockRefusalPartialEq;
 use refusal::Refusal;
 use std::test::*;
 use words::refusal::WordRefusal;

@@ -1,0 +1,7 @@
+// Examples and tables of cases for all layers, in a crate of their own so that the layers are not proved twice.
+#[cfg(test)]
+mod blocks_and_words;
+#[cfg(test)]
+mod lines;
+#[cfg(test)]
+mod ports;
