@@ -1,47 +1,43 @@
 -- What turning the correction off rests on.
-use mathlib.Core.Path.{_≡_, refl, sym, ap, _∙_, subst}
+use mathlib.Core.Path.{_≡_, sym, ap, _∙_, subst}
 use mathlib.Core.List.{List}
-use Prim.Native.Nat.{ℕ, _+_, _*_, _<_, _≤_}
+use Prim.Native.Nat.{ℕ, _<_, _≤_}
 use native.Mathlib.Omega.{arith}
 use lib.ListN.{length}
 use Rattle.symbols.specs.Symbols.{Symbols, Message, message-length}
 use Rattle.code.specs.Distance.{distance}
 use Rattle.code.specs.Codes.{Model, Lawful, Far}
-use Rattle.code.specs.Calls.{Sized, Mended-ok}
+use Rattle.code.specs.Calls.{Mended-ok}
 use Rattle.code.specs.Layers.{off, Exact}
 use Rattle.code.proofs.Metric.{distance-self, distance-zero}
+use Rattle.code.proofs.Once.{found-near, one-near}
+
+-- at distance 0 a line is the code word itself
+word-itself : (m : Model) → Lawful m → (line x : List ℕ) → length line ≡ m .n → Message x → distance line (m .encode x) ≡ 0 → line ≡ m .encode x
+word-itself m law line x long mx d = distance-zero line (m .encode x) (long ∙ sym (law .long x mx)) d
 
 -- a line that the code below finds at distance 0 is a code word
 pub off-found : (m : Model) (line message part zeros part′ found after : List ℕ) (d : ℕ) → Lawful m → part ≡ line → Mended-ok m part zeros part′ found d → d ≤ 0 → after ≡ found
     → length message ≡ message-length → Mended-ok (off m) line message line after 0
 off-found m line message part zeros part′ found after d law p ok small a long =
-    let far : distance part part′ ≡ 0 = omega (arith, ok .answer) in
-    let level : length part ≡ length part′ = ok .sized .line-long ∙ sym (law .long found (ok .is-message)) ∙ ap length (sym (ok .becomes)) in
-    let same : part ≡ part′ = distance-zero part part′ level far in
-    let self = distance-self line in
+    let none : distance part (m .encode found) ≡ 0 = omega (arith, ok .answer ∙ ap (distance part) (ok .becomes)) in
+    let same : part ≡ m .encode found = word-itself m law part found (ok .sized .line-long) (ok .is-message) none in
     record {
       sized = record { message-long = long; line-long = ap length (sym p) ∙ ok .sized .line-long };
       symbols = subst Symbols p (ok .symbols);
       is-message = subst Message (sym a) (ok .is-message);
-      becomes = sym p ∙ same ∙ ok .becomes ∙ ap (m .encode) (sym a);
-      answer = sym self;
+      becomes = sym p ∙ same ∙ ap (m .encode) (sym a);
+      answer = sym (distance-self line);
       near = omega arith;
     }
 
 -- a line that the code below had to mend is no code word
 pub off-far : (m : Model) (line message line′ message′ : List ℕ) (d : ℕ) → Lawful m → Mended-ok m line message line′ message′ d → 0 < d → Far (off m) line
 off-far m line message line′ message′ d law ok pos x near =
-    let e = m .encode x in
-    let level : length line ≡ length e = ok .sized .line-long ∙ sym (law .long x (near .is-message)) in
-    let same : line ≡ e = distance-zero line e level (omega (arith, near .within)) in
-    let d-is : d ≡ distance e (m .encode message′) = ok .answer ∙ ap (λ l. distance l line′) same ∙ ap (distance e) (ok .becomes) in
-    let differ : x ≡ message′ → ⊥ = λ q. let z : distance e (m .encode message′) ≡ 0 = ap (λ y. distance e (m .encode y)) (sym q) ∙ distance-self e in omega arith in
-    let apart : 2 * m .t + 1 ≤ distance e (m .encode message′) = law .apart x message′ (near .is-message) (ok .is-message) differ in
-    omega (arith, ok .near)
-
--- at distance 0 a line is the code word itself
-word-itself : (m : Model) → Lawful m → (line x : List ℕ) → length line ≡ m .n → Message x → distance line (m .encode x) ≡ 0 → line ≡ m .encode x
-word-itself m law line x long mx d = distance-zero line (m .encode x) (long ∙ sym (law .long x mx)) d
+    let mended = found-near m line message line′ message′ d ok in
+    let one : x ≡ message′ =
+    one-near m law line x message′ (ok .sized .line-long) (record { is-message = near .is-message; within = omega (arith, near .within) }) mended in
+    omega (arith, ok .answer ∙ ap (distance line) (ok .becomes ∙ ap (m .encode) (sym one)), near .within)
 
 pub exact : (m : Model) → Lawful m → Exact m
 exact m law = record {

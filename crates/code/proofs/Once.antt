@@ -3,7 +3,6 @@ use mathlib.Core.Path.{_≡_, refl, sym, ap, _∙_}
 use mathlib.Core.List.{List}
 use Prim.Native.Nat.{ℕ, _+_, _*_, _<_, _≤_}
 use native.Mathlib.Omega.{arith}
-use lib.ListN.{length, getD}
 use Rattle.std.specs.declared.result.Result.{Result}
 use Rattle.std.specs.declared.result.Result.the-variants.{Ok, Err}
 use Rattle.symbols.specs.Symbols.{Symbols, First-above}
@@ -14,7 +13,7 @@ use Rattle.code.specs.declared.refusal.CodeRefusal.{CodeRefusal}
 use Rattle.code.specs.declared.refusal.CodeRefusal.the-variants.{Length, Symbol, NoCodeWord}
 use Rattle.code.proofs.Metric.{distance-self, distance-zero, distance-comm, distance-triangle}
 
--- the word of a message that is not within reach of another's differs from it
+-- two code words within t of one line lie less than 2t + 1 apart, so they are one
 pub one-near : (m : Model) → Lawful m → One-near m
 one-near m law line x y long nx ny =
     let mx = nx .is-message in
@@ -40,7 +39,7 @@ one-above xs p q a b =
     grind arith
 
 -- the word that a mending found is near
-found-near : (m : Model) (line message l x : List ℕ) (d : ℕ) → Mended-ok m line message l x d → Near m line x
+pub found-near : (m : Model) (line message l x : List ℕ) (d : ℕ) → Mended-ok m line message l x d → Near m line x
 found-near m line message l x d ok =
     record { is-message = ok .is-message; within = omega (arith, ok .near, ok .answer ∙ ap (distance line) (ok .becomes)) }
 

@@ -1,13 +1,13 @@
 -- Lists added symbol by symbol: their lengths, places and symbols, and that a list added twice is gone.
 use mathlib.Core.Path.{_≡_, refl, sym, ap, _∙_}
 use mathlib.Core.List.{List, [], _∷_}
-use Prim.Native.Nat.{ℕ, zero, suc, _+_, _*_, _/_, _%_, _^_, _<_, _≤_}
+use Prim.Native.Nat.{ℕ, zero, suc, _+_, _/_, _%_, _^_, _<_}
 use native.Mathlib.Omega.{arith}
-use lib.Bits.{bitXor, bitAnd, xor-lt, xor-shr, xor-add-and}
+use lib.Bits.{bitXor, xor-lt, xor-shr, xor-add-and}
 use lib.ListN.{length, getD}
 use lib.Seq.{ext-getD}
 use Rattle.symbols.specs.Symbols.{Symbols}
-use Rattle.code.specs.Distance.{distance, plus}
+use Rattle.code.specs.Distance.{plus}
 use Rattle.code.proofs.Metric.{xor-twice}
 
 pub length-plus : (x y : List ℕ) → length (plus x y) ≡ length x

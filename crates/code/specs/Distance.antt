@@ -6,6 +6,8 @@ use Prim.Native.Nat.{ℕ, _+_, _≤_}
 use lib.Bits.{bitXor}
 use lib.Dec.{eqb}
 use lib.ListN.{length}
+use Rattle.std.specs.declared.option.Option.{Option}
+use Rattle.std.specs.declared.option.Option.the-variants.{Some, None}
 
 -- in how many places two lists of the same length differ
 unfoldable pub distance : List ℕ → List ℕ → ℕ
@@ -18,6 +20,11 @@ unfoldable pub plus : List ℕ → List ℕ → List ℕ
 plus [] ys = []
 plus (x ∷ xs) [] = x ∷ xs
 plus (x ∷ xs) (y ∷ ys) = bitXor x y ∷ plus xs ys
+
+-- the distance was asked of two lists; there is none where their lengths differ
+abbrev pub Measured : List ℕ → List ℕ → Option ℕ → Type 0
+Measured x y None = length x ≡ length y → ⊥
+Measured x y (Some d) = (length x ≡ length y) × (d ≡ distance x y)
 
 -- the laws of the distance
 pub record Distance-laws : Type 0 where

@@ -19,7 +19,7 @@ use Rattle.code.specs.declared.refusal.CodeRefusal.the-variants.{Length, NoCod
 abbrev pub off : Model → Model
 off m = record { n = m .n; t = 0; encode = m .encode }
 
--- with correction off, code words are accepted as they are, and 33 is said of no code word
+-- correction off accepts exactly the code words: what it accepts is one, left as it is, with no symbol wrong; what it says 33 of is none
 pub record Exact (m : Model) : Type 0 where
   pub accepts : (line message line′ message′ : List ℕ) (d : ℕ) → Mended (off m) line message line′ message′ (Ok d) → Code-word m line × (line′ ≡ line) × (d ≡ 0)
   pub refuses : (line message line′ message′ : List ℕ) → Mended (off m) line message line′ message′ (Err NoCodeWord) → Code-word m line → ⊥

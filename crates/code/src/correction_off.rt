@@ -49,11 +49,11 @@ impl<C: Code> CorrectionOff<C> {
         ensures { λ r. ⌜ Mended (off (C·Code .model (now (self .entry) .inner))) (now (line .entry)) (now (message .entry)) (now (line .entry)) (now (message .exit)) r ⌝ }
     {
         check_lengths(self.inner.n(), message, line)?;
-        let mut copy = [0u16; LONGEST_LINE];
-        let part = &mut copy[..line.len()];
-        part.copy_from_slice(line);
+        let mut room = [0u16; LONGEST_LINE];
+        let word = &mut room[..line.len()];
+        word.copy_from_slice(line);
         let mut found = [0u16; MESSAGE_LENGTH];
-        let wrong = self.inner.mend(part, &mut found)?;
+        let wrong = self.inner.mend(word, &mut found)?;
         if wrong > 0 {
             return Err(CodeRefusal::NoCodeWord);
         }

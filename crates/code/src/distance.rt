@@ -1,12 +1,9 @@
 // How far two lists of symbols lie apart.
-ghost use mathlib.Core.Path.{_≡_};
-ghost use lib.ListN.{length};
-ghost use Rattle.std.specs.Options.{Cases};
-ghost use Rattle.code.specs.Distance.{Distance-laws, distance as distance-of};
+ghost use Rattle.code.specs.Distance.{Measured, Distance-laws};
 
 // In how many places the two lists differ; none where they have not the same length.
 pub fn distance(a: &[u16], b: &[u16]) -> Option<usize>
-    ensures answer { λ r. ⌜ Cases r (length (now (a .entry)) ≡ length (now (b .entry)) → ⊥) (λ d. (length (now (a .entry)) ≡ length (now (b .entry))) × (d ≡ distance-of (now (a .entry)) (now (b .entry)))) ⌝ }
+    ensures answer { λ r. ⌜ Measured (now (a .entry)) (now (b .entry)) r ⌝ }
     ensures laws { λ r. ⌜ Distance-laws ⌝ }
 {
     if a.len() != b.len() {

@@ -8,5 +8,3 @@ pub mod receive;
 pub mod refusal;
 pub mod scrambled;
 pub mod sequence;
-#[cfg(test)]
-mod tests;

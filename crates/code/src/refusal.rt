@@ -42,7 +42,7 @@ pub impl fmt::Display for CodeRefusal as CodeRefusalDisplay {
             CodeRefusal::Length => write!(f, "31: the message or the line has the wrong length"),
             CodeRefusal::Symbol { place } => write!(
                 f,
-                "32: the number at place {place} is no symbol"
+                "32: a number above 1,023, at symbol {place}"
             ),
             CodeRefusal::NoCodeWord => write!(f, "33: no code word within reach"),
         }

@@ -2,6 +2,14 @@
 #[cfg(test)]
 mod blocks_and_words;
 #[cfg(test)]
+mod codes;
+#[cfg(test)]
+mod field_values;
+#[cfg(test)]
 mod lines;
 #[cfg(test)]
 mod ports;
+#[cfg(test)]
+mod reed_solomon_lines;
+#[cfg(test)]
+mod reed_solomon_words;

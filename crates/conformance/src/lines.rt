@@ -20,7 +20,11 @@ pub fn mixed(pattern: u8) -> Result<[Word; 80], Fail> {
     let mut words = [Word::Data(0); 80];
     for (i, word) in words.iter_mut().enumerate() {
         let body = (i as u64).wrapping_mul(0x9e37_79b9_7f4a_7c15);
-        *word = if pattern >> (i % 7) & 1 == 1 { Word::new(1, body & 0xffff_ffff_ffff_ff00 | 0xd2)? } else { Word::Data(body) };
+        *word = if pattern >> (i % 7) & 1 == 1 {
+            Word::new(1, body & 0xffff_ffff_ffff_ff00 | 0xd2)?
+        } else {
+            Word::Data(body)
+        };
     }
     Ok(words)
 }
@@ -52,14 +56,29 @@ fn places_bits() -> Result<(), Fail> {
 #[test]
 fn refuses_messages() -> Result<(), Fail> {
     let mut message = [0u16; 514];
-    check_eq(from_message(&message), Err(MessageRefusal::Block { block: 0, refusal: BlockRefusal::NoType { word: 0 } }))?;
+    check_eq(
+        from_message(&message),
+        Err(MessageRefusal::Block {
+            block: 0,
+            refusal: BlockRefusal::NoType { word: 0 },
+        }),
+    )?;
     to_message(&[Word::Data(0); 80], &mut message);
     // block 1 begins at message bit 257, bit 7 of symbol 25: its bits 0 to 4 become 0, 1, 1, 1, 1
     message[25] = 0x300;
     message[26] = 0x3;
-    let refused = MessageRefusal::Block { block: 1, refusal: BlockRefusal::NoControl };
+    let refused = MessageRefusal::Block {
+        block: 1,
+        refusal: BlockRefusal::NoControl,
+    };
     check_eq(from_message(&message), Err(refused))?;
-    check_eq((refused.number(), refused.place(), refused.block()), (21, 0, Some(1)))?;
+    check_eq(
+        (refused.number(), refused.place(), refused.block()),
+        (21, 0, Some(1)),
+    )?;
     message[513] = 1024;
-    check_eq(from_message(&message), Err(MessageRefusal::Symbol { place: 513 }))
+    check_eq(
+        from_message(&message),
+        Err(MessageRefusal::Symbol { place: 513 }),
+    )
 }

@@ -27,7 +27,11 @@ use words::word::Word;
 const LIMIT: u64 = 1 << 40;
 
 fn totals(accepted: u64, dropped: u64, mended: u64) -> Totals {
-    Totals { accepted, dropped, mended }
+    Totals {
+        accepted,
+        dropped,
+        mended,
+    }
 }
 
 // What opening a port with these totals answers, and what one reading of a written line answers then.
@@ -59,7 +63,12 @@ fn opens_up_to_the_limit() -> Result<(), Fail> {
 
 // What reading a written line answers once `flip` was added to the symbol at `place`, and the totals then.
 fn spoilt(place: usize, flip: u16) -> Result<(Result<(), PortRefusal>, Totals), PortRefusal> {
-    let mut port = Port::open(CorrectionOff { inner: Scrambled { inner: Bare } }, totals(10, 20, 30))?;
+    let mut port = Port::open(
+        CorrectionOff {
+            inner: Scrambled { inner: Bare },
+        },
+        totals(10, 20, 30),
+    )?;
     let mut words = [Word::Data(0); 80];
     let mut line = [0u16; 514];
     port.write(&words, &mut line)?;
@@ -72,14 +81,27 @@ fn spoilt(place: usize, flip: u16) -> Result<(Result<(), PortRefusal>, Totals), 
 
 #[test]
 fn counts_each_end_of_a_reading() -> Result<(), Fail> {
-    let no_control = MessageRefusal::Block { block: 0, refusal: BlockRefusal::NoControl };
+    let no_control = MessageRefusal::Block {
+        block: 0,
+        refusal: BlockRefusal::NoControl,
+    };
     let table = [
         (0, 0, Ok(()), totals(11, 20, 30)),
         // any body of data words is valid
         (1, 7, Ok(()), totals(11, 20, 30)),
         // bits 0 to 4 of block 0 become 0, 1, 1, 1, 1
-        (0, 0x1f, Err(PortRefusal::Message(no_control)), totals(10, 21, 30)),
-        (513, 0x400, Err(PortRefusal::Code(CodeRefusal::Symbol { place: 513 })), totals(10, 20, 30)),
+        (
+            0,
+            0x1f,
+            Err(PortRefusal::Message(no_control)),
+            totals(10, 21, 30),
+        ),
+        (
+            513,
+            0x400,
+            Err(PortRefusal::Code(CodeRefusal::Symbol { place: 513 })),
+            totals(10, 20, 30),
+        ),
     ];
     for (place, flip, answer, after) in table {
         check_eq(spoilt(place, flip)?, (answer, after))?;
@@ -95,6 +117,9 @@ fn refuses_wrong_lengths() -> Result<(), Fail> {
     check_eq(port.read(&mut short, &mut words), Err(PortRefusal::Length))?;
     check_eq(port.write(&words, &mut short), Err(PortRefusal::Length))?;
     let mut line = [0u16; 514];
-    check_eq(port.write(&words[0..79], &mut line), Err(PortRefusal::Length))?;
+    check_eq(
+        port.write(&words[0..79], &mut line),
+        Err(PortRefusal::Length),
+    )?;
     check_eq(port.totals(), totals(0, 0, 0))
 }

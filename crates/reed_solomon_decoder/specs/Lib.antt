@@ -1,0 +1,5 @@
+-- Which errors have the syndromes of a line.
+pub mod Errors
+pub mod Kernel
+pub mod Exponents
+pub mod Decoded
