@@ -1,12 +1,12 @@
 -- A test at every number below a bound, by one computation.
-use mathlib.Core.Path.{_≡_, sym, subst}
+use mathlib.Core.Path.{sym, subst}
 use mathlib.Core.Bool.{Bool, true, false}
 use Prim.Native.Nat.{ℕ, zero, suc, _<_}
 use native.Mathlib.Nat.{not-suc-le-zero}
 use native.Mathlib.Decide.{ℕ-discrete}
 use native.Mathlib.Omega.{arith}
 use mathlib.Core.Logic.{_≢_}
-use lib.Dec.{T, eqb, eqb→eq}
+use lib.Dec.{T}
 
 abbrev pub both : Bool → Bool → Bool
 both true b = b

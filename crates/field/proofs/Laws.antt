@@ -1,13 +1,12 @@
 -- The laws of the field's product.
-use mathlib.Core.Path.{_≡_, refl, sym, ap, ap₂, _∙_, subst}
-use mathlib.Core.Bool.{Bool, true, false}
-use Prim.Native.Nat.{ℕ, zero, suc, _+_, _*_, _/_, _%_, _^_, _<_, _≤_}
+use mathlib.Core.Path.{_≡_, refl, sym, ap, ap₂, _∙_}
+use Prim.Native.Nat.{ℕ, zero, suc, _+_, _*_, _/_, _%_, _^_, _<_}
 use native.Mathlib.Nat.{not-suc-le-zero, le-of-suc-le-suc, mod-lt, mod-eq-of-lt, pow-suc}
 use lib.Arith.{mod-mul, digits-div, digits-mod}
 use lib.Pow.{pow-pos}
 use Rattle.std.proofs.shelf.Bits.{field-of}
 use native.Mathlib.Omega.{arith}
-use lib.Bits.{bitXor, xor-assoc, xor-comm, xor-self, xor-zero-r, xor-shr, xor-mod, xor-lt}
+use lib.Bits.{bitXor, xor-self, xor-zero-r, xor-shr, xor-mod, xor-lt}
 use lib.Dec.{T, eqb, eqb→eq, lit<}
 use Rattle.field.specs.Field.{coefficient-times, tenth-power, times-x, mul-lowest, mul}
 use Rattle.field.proofs.Every.{every, every-at}

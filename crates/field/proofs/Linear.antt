@@ -1,15 +1,12 @@
 -- Exclusive or as an addition, and functions that pass through it.
-use mathlib.Core.Path.{_≡_, refl, sym, ap, ap₂, _∙_, subst}
-use mathlib.Core.Bool.{Bool, true, false}
-use Prim.Native.Nat.{ℕ, zero, suc, _+_, _*_, _/_, _%_, _^_, _<_, _≤_}
+use mathlib.Core.Path.{_≡_, sym, ap, ap₂, _∙_, subst}
+use Prim.Native.Nat.{ℕ, zero, suc, _*_, _/_, _%_, _^_, _<_}
 use native.Mathlib.Nat.{not-suc-le-zero, le-of-suc-le-suc, mod-lt, add-zero, zero-mul, one-mul}
 use native.Mathlib.Numerals.{one-add}
 use native.Mathlib.Omega.{arith}
 use lib.Arith.{lt-one}
-use lib.Bits.{bitXor, xor-assoc, xor-comm, xor-self, xor-zero-r, xor-block, xor-shifted, xor-shr, xor-mod}
+use lib.Bits.{bitXor, xor-assoc, xor-comm, xor-self, xor-zero-r, xor-block, xor-shifted}
 use Rattle.std.proofs.shelf.Bits.{pow-pos, shr-split, shr-below}
-use lib.Dec.{T, eqb, eqb→eq}
-use Rattle.field.proofs.Every.{every, every-at}
 
 -- ---- the laws of an addition
 
@@ -55,8 +52,3 @@ linear-ext f g lf lg (suc k) same a h =
     top zero _ = ap f (zero-mul (2 ^ k)) ∙ linear-zero f lf ∙ sym (linear-zero g lg) ∙ ap g (sym (zero-mul (2 ^ k)))
     top (suc zero) _ = ap f (one-mul (2 ^ k)) ∙ same k (omega arith) ∙ ap g (sym (one-mul (2 ^ k)))
     top (suc (suc q)) p = absurd (not-suc-le-zero (le-of-suc-le-suc (le-of-suc-le-suc p)))
-
--- the same where the powers of two below 2 ^ 10 are compared by computation
-pub linear-same : (f g : ℕ → ℕ) → Linear f → Linear g → T (every (λ i. eqb (f (2 ^ i)) (g (2 ^ i))) 10) → (a : ℕ) → a < 1024 → f a ≡ g a
-linear-same f g lf lg t =
-    linear-ext f g lf lg 10 (λ i h. eqb→eq (f (2 ^ i)) (g (2 ^ i)) (every-at (λ i. eqb (f (2 ^ i)) (g (2 ^ i))) 10 t i h))

@@ -1,17 +1,16 @@
 -- Powers, the inverse, and the order of x.
-use mathlib.Core.Path.{_≡_, refl, sym, ap, ap₂, _∙_, subst}
-use mathlib.Core.Bool.{Bool, true, false, not}
+use mathlib.Core.Path.{_≡_, refl, sym, ap, _∙_, subst}
+use mathlib.Core.Bool.{Bool, true, not}
 use mathlib.Core.Logic.{_⊎_, inl, inr, _≢_}
-use Prim.Native.Nat.{ℕ, zero, suc, _+_, _-_, _*_, _/_, _%_, _^_, _<_, _≤_}
+use Prim.Native.Nat.{ℕ, zero, suc, _+_, _-_, _^_, _<_}
 use native.Mathlib.Nat.{not-suc-le-zero, le-of-suc-le-suc, zero-add, suc-add, add-zero, add-suc}
 use native.Mathlib.Omega.{arith}
-use lib.Bits.{bitXor, xor-zero-r, xor-self}
-use lib.Dec.{T, eqb, eqb→eq, lit<, eqb-refl, T-not}
-use Rattle.field.specs.Field.{coefficient-times, times-x, mul-lowest, mul, pow, inv}
+use lib.Bits.{bitXor}
+use lib.Dec.{T, eqb, eqb→eq, lit<, T-not}
+use Rattle.field.specs.Field.{times-x, mul-lowest, mul, pow, inv}
 use Rattle.field.specs.Laws.{Alpha-laws, Inverse-laws}
 use Rattle.field.proofs.Every.{every, every-at, both, both-left, both-right}
-use Rattle.field.proofs.Linear.{xor-zero-eq}
-use Rattle.field.proofs.Laws.{mul-xor-r, mul-lt, mul-comm, mul-assoc, mul-one-l, mul-one-r, mul-two, mul-zero-r, mul-zero-l}
+use Rattle.field.proofs.Laws.{mul-lt, mul-comm, mul-assoc, mul-one-l, mul-one-r, mul-two, mul-zero-r, mul-zero-l}
 
 pub pow-zero : (a : ℕ) → pow a 0 ≡ 1
 unfolding pow

@@ -1,7 +1,7 @@
 -- GF(2^10), the field of 1,024 elements: polynomials over bits modulo x^10 + x^3 + 1.
 -- An element is the number whose bits are the polynomial's coefficients, the constant term lowest.
 -- A number above 1,023 stands for its lowest ten bits.
-use Prim.Native.Nat.{ℕ, zero, suc, _+_, _*_, _/_, _%_}
+use Prim.Native.Nat.{ℕ, zero, suc, _*_, _/_, _%_}
 use lib.Bits.{bitXor}
 
 abbrev pub add : ℕ → ℕ → ℕ

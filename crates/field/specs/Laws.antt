@@ -1,7 +1,7 @@
 -- What makes these numbers the field: a commutative ring in which all but 0 has an inverse, and α generates the rest.
 use mathlib.Core.Path.{_≡_}
 use mathlib.Core.Logic.{_⊎_, _≢_}
-use Prim.Native.Nat.{ℕ, suc, _^_, _<_}
+use Prim.Native.Nat.{ℕ, _^_, _<_}
 use Rattle.field.specs.Field.{add, mul, pow, inv, α}
 
 -- the laws hold for all numbers, but where a bound is written

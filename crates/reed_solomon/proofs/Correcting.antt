@@ -6,8 +6,8 @@ use mathlib.Core.List.{List, [], _∷_}
 use Prim.Native.Nat.{ℕ, zero, suc, _+_, _-_, _<_, _≤_}
 use native.Mathlib.Nat.{not-suc-le-zero, le-of-suc-le-suc, zero-add}
 use native.Mathlib.Omega.{arith}
-use lib.Bits.{bitXor, xor-assoc, xor-self, xor-zero-l, xor-zero-r, xor-lt}
-use lib.Dec.{T, eqb, lit<}
+use lib.Bits.{bitXor, xor-assoc, xor-self, xor-zero-r, xor-lt}
+use lib.Dec.{eqb}
 use lib.ListN.{length, getD, set, drop}
 use Rattle.std.proofs.shelf.Lists.{drop-more, drop-all}
 use Rattle.code.specs.Distance.{distance}

@@ -1,12 +1,12 @@
 -- A repaired line and the front of it are a code word and its message.
-use mathlib.Core.Path.{_≡_, refl, sym, ap, subst, _∙_}
+use mathlib.Core.Path.{_≡_, sym, subst}
 use mathlib.Core.List.{List}
-use Prim.Native.Nat.{ℕ, _<_, _≤_}
+use Prim.Native.Nat.{ℕ, _≤_}
 use native.Mathlib.Omega.{arith}
-use lib.ListN.{length, take}
+use lib.ListN.{take}
 use lib.Seq.{length-take-le}
-use Rattle.symbols.specs.Symbols.{Symbols, Message}
-use Rattle.code.specs.Codes.{Near, Far}
+use Rattle.symbols.specs.Symbols.{Message}
+use Rattle.code.specs.Codes.{Far}
 use Rattle.reed_solomon_algebra.specs.CodeWords.{Code-word}
 use Rattle.reed_solomon_algebra.specs.Division.{encode, reed-solomon}
 use Rattle.reed_solomon_algebra.proofs.Encodes.{encode-word, encode-only}

@@ -1,8 +1,8 @@
 -- The errors that explain a line's syndromes are those that lead to a code word near it.
-use mathlib.Core.Path.{_≡_, refl, sym, ap, ap₂, _∙_, subst}
-use mathlib.Core.Logic.{_⊎_, inl, inr, _≢_}
-use mathlib.Core.List.{List, [], _∷_, reverse}
-use Prim.Native.Nat.{ℕ, zero, suc, _+_, _*_, _<_, _≤_}
+use mathlib.Core.Path.{_≡_, sym, ap, ap₂, _∙_, subst}
+use mathlib.Core.Logic.{inl, inr, _≢_}
+use mathlib.Core.List.{List, [], _∷_}
+use Prim.Native.Nat.{ℕ, zero, suc, _*_, _<_, _≤_}
 use native.Mathlib.Nat.{not-suc-le-zero, zero-add}
 use native.Mathlib.Decide.{ℕ-discrete}
 use native.Mathlib.Omega.{arith}
@@ -10,18 +10,18 @@ use lib.Bits.{bitXor, xor-self, xor-zero-r}
 use lib.ListN.{length, getD}
 use Rattle.symbols.specs.Symbols.{Symbols}
 use Rattle.code.specs.Distance.{distance}
-use Rattle.field.specs.Field.{mul, pow}
-use Rattle.reed_solomon_algebra.specs.Polynomials.{value, Elements}
+use Rattle.field.specs.Field.{pow}
+use Rattle.reed_solomon_algebra.specs.Polynomials.{value}
 use Rattle.reed_solomon_algebra.specs.CodeWords.{Code-word, line-length, polynomial}
 use Rattle.reed_solomon_algebra.specs.Terms.{Term, power-sum, Placed, locators, terms, difference}
-use Rattle.reed_solomon_algebra.proofs.Polynomials.{line-value, value-line}
+use Rattle.reed_solomon_algebra.proofs.Polynomials.{value-line}
 use Rattle.reed_solomon_algebra.proofs.Generator.{elements}
 use Rattle.reed_solomon_algebra.proofs.Locators.{locators-length, locators-differ, locators-powers, syndrome-value}
 use Rattle.reed_solomon_algebra.proofs.Differences.{difference-length, difference-small, difference-distinct, difference-placed, difference-sum, vanishing-sums}
 use Rattle.reed_solomon_algebra.proofs.Divides.{divisible-vanishes}
 use Rattle.reed_solomon_algebra.proofs.Encodes.{vanishing-word}
 use Rattle.reed_solomon_decoder.specs.Errors.{Has, Covered, Explains}
-use Rattle.reed_solomon_decoder.proofs.Composition.{read-at, read-powers}
+use Rattle.reed_solomon_decoder.proofs.Composition.{read-powers}
 use Rattle.reed_solomon.specs.Corrected.{corrected}
 use Rattle.reed_solomon.proofs.Correcting.{corrected-length, corrected-elements, corrected-sum}
 

@@ -2,11 +2,11 @@
 use mathlib.Core.Path.{_≡_, refl, sym, ap, ap₂, _∙_, subst}
 use mathlib.Core.Bool.{Bool, true, false, cond}
 use mathlib.Core.List.{List, [], _∷_}
-use Prim.Native.Nat.{ℕ, suc, _+_, _<_, _≤_}
+use Prim.Native.Nat.{ℕ, _+_, _<_, _≤_}
 use native.Mathlib.Omega.{arith}
 use lib.Bits.{bitXor, xor-self, xor-lt}
 use lib.Dec.{T, eqb, eqb→eq, eqb-refl}
-use lib.ListN.{length, getD}
+use lib.ListN.{length}
 use Rattle.symbols.specs.Symbols.{Symbols}
 use Rattle.code.specs.Distance.{distance}
 use Rattle.code.proofs.Metric.{distance-zero}
@@ -14,7 +14,6 @@ use Rattle.field.specs.Field.{mul, pow}
 use Rattle.field.proofs.Linear.{xor4, xor-zero-eq}
 use Rattle.field.proofs.Laws.{mul-xor-l, mul-zero-l}
 use Rattle.field.proofs.Powers.{pow-lt}
-use Rattle.reed_solomon_algebra.specs.Polynomials.{value}
 use Rattle.reed_solomon_algebra.specs.Division.{Vanishes}
 use Rattle.reed_solomon_algebra.specs.Terms.{Term, power-sum, Small, Apart, Distinct, Vanish, Placed, Away, Differ, Powers, locators, terms, difference}
 use Rattle.reed_solomon_algebra.proofs.Polynomials.{first-symbol, rest-symbols, value-line}

@@ -1,26 +1,23 @@
 -- A line is divisible by the generator exactly when it vanishes at the generator's roots.
 use mathlib.Core.Path.{_≡_, refl, sym, ap, ap₂, _∙_, subst}
-use mathlib.Core.Logic.{_⊎_, inl, inr, _≢_}
-use mathlib.Core.Bool.{cond}
-use mathlib.Core.List.{List, [], _∷_, _++_, reverse, reverse-reverse}
-use Prim.Native.Nat.{ℕ, zero, suc, _+_, _-_, _*_, _<_, _≤_, min}
+use mathlib.Core.Logic.{_⊎_, inl, inr}
+use mathlib.Core.List.{List, [], _∷_, reverse, reverse-reverse}
+use Prim.Native.Nat.{ℕ, zero, suc, _+_, _-_, _<_, _≤_}
 use native.Mathlib.Omega.{arith}
 use native.Mathlib.Nat.{zero-add}
-use lib.Bits.{bitXor, xor-assoc, xor-comm, xor-self, xor-lt, xor-zero-r, xor-zero-l}
-use lib.Dec.{lit<, eqb}
-use lib.ListN.{length, getD, take, replicate, length-take, length-reverse, length-replicate, getD-replicate}
+use lib.Bits.{bitXor, xor-assoc, xor-comm, xor-zero-r, xor-zero-l}
+use lib.Dec.{lit<}
+use lib.ListN.{length, getD, take, replicate, length-take, length-reverse, length-replicate}
 use lib.Seq.{getD-take, ext-getD}
 use Rattle.std.proofs.shelf.Lists.{getD-reverse, getD-past}
-use Rattle.std.proofs.shelf.Ways.{tells}
 use Rattle.field.specs.Field.{mul, pow}
 use Rattle.field.proofs.Linear.{xor-cancel}
 use Rattle.field.proofs.Laws.{mul-one-r, mul-zero-r}
 use Rattle.symbols.specs.Symbols.{Symbols}
-use Rattle.code.specs.Distance.{distance}
 use Rattle.reed_solomon_algebra.specs.Polynomials.{value, plus, scale, times, Divisible, Elements}
 use Rattle.reed_solomon_algebra.specs.CodeWords.{generator}
 use Rattle.reed_solomon_algebra.specs.Division.{Vanishes}
-use Rattle.reed_solomon_algebra.proofs.Polynomials.{line-value, plus-at, scale-at, plus-length, plus-length-left, scale-length, times-length, value-plus, value-times, value-line}
+use Rattle.reed_solomon_algebra.proofs.Polynomials.{plus-at, scale-at, plus-length, plus-length-left, scale-length, times-length, value-plus, value-times, value-line}
 use Rattle.reed_solomon_algebra.proofs.Metric.{distance-within}
 use Rattle.reed_solomon_algebra.proofs.Differences.{equal-lines}
 use Rattle.reed_solomon_algebra.proofs.Generator.{elements, elements-plus, elements-scale, elements-cons, elements-nil, generator-length, generator-first, generator-root}

@@ -1,19 +1,19 @@
 -- The shift register: what it leaves, at a root of the generator.
 use mathlib.Core.Path.{_≡_, refl, sym, ap, ap₂, _∙_, subst}
-use mathlib.Core.List.{List, [], _∷_, _++_, reverse}
-use Prim.Native.Nat.{ℕ, zero, suc, _+_, _*_, _<_, _≤_}
+use mathlib.Core.List.{List, [], _∷_, _++_}
+use Prim.Native.Nat.{ℕ, zero, suc, _<_}
 use native.Mathlib.Omega.{arith}
-use lib.Bits.{bitXor, xor-assoc, xor-comm, xor-self, xor-lt, xor-zero-r, xor-zero-l}
+use lib.Bits.{bitXor, xor-assoc, xor-comm, xor-lt, xor-zero-r, xor-zero-l}
 use lib.Dec.{lit<}
-use lib.ListN.{length, getD, replicate, length-append, length-replicate}
+use lib.ListN.{length, getD, replicate, length-append}
 use Rattle.field.specs.Field.{mul, pow}
-use Rattle.field.proofs.Linear.{xor4, xor-cancel}
+use Rattle.field.proofs.Linear.{xor4}
 use Rattle.field.proofs.Laws.{mul-xor-r, mul-xor-l, mul-lt, mul-comm, mul-assoc, mul-one-l, mul-one-r, mul-zero-r, mul-zero-l, mul-left-comm}
-use Rattle.field.proofs.Powers.{pow-zero, pow-suc, pow-lt, pow-add}
-use Rattle.reed_solomon_algebra.specs.Polynomials.{value, plus, scale, Elements}
+use Rattle.field.proofs.Powers.{pow-zero, pow-suc, pow-add}
+use Rattle.reed_solomon_algebra.specs.Polynomials.{plus, scale, Elements}
 use Rattle.reed_solomon_algebra.specs.Division.{step, remainder}
 use Rattle.reed_solomon_algebra.proofs.Polynomials.{line-value, plus-at, scale-at, plus-length, scale-length}
-use Rattle.reed_solomon_algebra.proofs.Generator.{elements-plus, elements-scale, elements-cons, elements-nil}
+use Rattle.reed_solomon_algebra.proofs.Generator.{elements-plus, elements-scale}
 
 pub line-value-lt : (x : ℕ) (line : List ℕ) → line-value x line < 1024
 unfolding line-value

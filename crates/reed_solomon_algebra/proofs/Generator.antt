@@ -1,11 +1,11 @@
 -- The generator: its length, its first coefficient, its roots.
 use mathlib.Core.Path.{_≡_, refl, sym, ap, ap₂, _∙_, subst}
-use mathlib.Core.Logic.{_⊎_, inl, inr, _≢_}
-use mathlib.Core.List.{List, [], _∷_, _++_, reverse, reverse-reverse}
-use Prim.Native.Nat.{ℕ, zero, suc, _+_, _-_, _*_, _<_, _≤_}
+use mathlib.Core.Logic.{_≢_}
+use mathlib.Core.List.{List, [], _∷_, reverse, reverse-reverse}
+use Prim.Native.Nat.{ℕ, zero, suc, _-_, _<_}
 use native.Mathlib.Decide.{ℕ-discrete}
 use native.Mathlib.Omega.{arith}
-use lib.Bits.{bitXor, xor-self, xor-lt, xor-zero-r, xor-zero-l}
+use lib.Bits.{bitXor, xor-self, xor-lt}
 use lib.Dec.{lit<}
 use lib.ListN.{length, getD, drop, length-reverse}
 use lib.Seq.{drop-cons}
@@ -59,8 +59,8 @@ unfolding generator times
 generator-first zero = refl
 generator-first (suc k) =
     let past : getD (generator k) (suc k) 0 ≡ 0 = getD-past (generator k) (suc k) 0 (omega (arith, generator-length k)) in
-    plus-at (scale (pow 2 k) (generator k)) (0 ∷ times (1 ∷ []) (generator k)) (suc k)
-    ∙ ap₂ bitXor (scale-at (pow 2 k) (generator k) (suc k) ∙ ap (mul (pow 2 k)) past ∙ mul-zero-r (pow 2 k))
+    plus-at (scale _ (generator k)) (0 ∷ times (1 ∷ []) (generator k)) (suc k)
+    ∙ ap₂ bitXor (scale-at _ (generator k) (suc k) ∙ ap (mul _) past ∙ mul-zero-r _)
     (plus-at (scale 1 (generator k)) (0 ∷ []) k
     ∙ ap₂ bitXor (scale-at 1 (generator k) k ∙ ap (mul 1) (generator-first k) ∙ mul-one-l 1 (lit< tt)) (zeros k))
   where

@@ -1,17 +1,17 @@
 -- Terms at distinct places, at most m of them, whose first m power sums are zero, are all zero.
 use mathlib.Core.Path.{_≡_, refl, sym, ap, ap₂, _∙_, subst}
 use mathlib.Core.List.{List, [], _∷_}
-use mathlib.Core.Logic.{_⊎_, inl, inr, _≢_}
-use Prim.Native.Nat.{ℕ, zero, suc, _+_, _<_, _≤_}
+use mathlib.Core.Logic.{inl, inr}
+use Prim.Native.Nat.{ℕ, zero, suc, _<_, _≤_}
 use native.Mathlib.Nat.{not-suc-le-zero, le-of-suc-le-suc}
 use native.Mathlib.Omega.{arith}
-use lib.Bits.{bitXor, xor-lt, xor-self, xor-zero-r}
+use lib.Bits.{bitXor, xor-lt, xor-self}
 use lib.ListN.{length}
 use Rattle.field.specs.Field.{mul, pow}
 use Rattle.reed_solomon_algebra.specs.Terms.{Term, power-sum, Small, Apart, Distinct, Vanish}
 use Rattle.field.proofs.Linear.{xor4, xor-zero-eq}
-use Rattle.field.proofs.Laws.{mul-xor-r, mul-xor-l, mul-lt, mul-comm, mul-assoc, mul-one-r, mul-zero-r, mul-left-comm}
-use Rattle.field.proofs.Powers.{pow-suc, pow-zero, pow-lt, mul-zero}
+use Rattle.field.proofs.Laws.{mul-xor-r, mul-xor-l, mul-lt, mul-assoc, mul-one-r, mul-zero-r, mul-left-comm}
+use Rattle.field.proofs.Powers.{pow-suc, pow-zero, mul-zero}
 
 -- each coefficient times the way from x to its place
 shift : ℕ → List Term → List Term

@@ -1,16 +1,15 @@
 -- Laws of polynomials.
 use mathlib.Core.Path.{_≡_, refl, sym, ap, ap₂, _∙_, subst}
-use mathlib.Core.List.{List, [], _∷_, _++_, reverse, reverse-cons, reverse-reverse}
-use Prim.Native.Nat.{ℕ, zero, suc, _+_, _*_, _<_, _≤_, max}
-use native.Mathlib.Nat.{zero-add, suc-add, add-zero, add-suc}
+use mathlib.Core.List.{List, [], _∷_, _++_, reverse, reverse-cons}
+use Prim.Native.Nat.{ℕ, zero, suc, _+_, _<_, _≤_}
+use native.Mathlib.Nat.{zero-add}
 use native.Mathlib.Omega.{arith}
-use lib.Bits.{bitXor, xor-assoc, xor-comm, xor-self, xor-zero-r, xor-zero-l, xor-lt}
-use lib.Dec.{lit<}
-use lib.ListN.{length, getD, length-append, length-reverse}
+use lib.Bits.{bitXor, xor-assoc, xor-comm, xor-zero-r, xor-zero-l}
+use lib.ListN.{length, getD, length-reverse}
 use Rattle.field.specs.Field.{mul, pow}
-use Rattle.field.proofs.Linear.{xor4, xor-cancel}
-use Rattle.field.proofs.Laws.{mul-xor-r, mul-xor-l, mul-lt, mul-comm, mul-assoc, mul-one-l, mul-one-r, mul-zero-r, mul-zero-l, mul-left-comm}
-use Rattle.field.proofs.Powers.{pow-zero, pow-suc, pow-lt, pow-add}
+use Rattle.field.proofs.Linear.{xor4}
+use Rattle.field.proofs.Laws.{mul-xor-r, mul-xor-l, mul-comm, mul-assoc, mul-one-l, mul-zero-r, mul-zero-l, mul-left-comm}
+use Rattle.field.proofs.Powers.{pow-zero, pow-suc}
 use Rattle.symbols.specs.Symbols.{Symbols}
 use Rattle.reed_solomon_algebra.specs.Polynomials.{value, plus, scale, times}
 

@@ -1,19 +1,18 @@
 -- Values read off at places that cover an explanation have its sums.
 use mathlib.Core.Path.{_≡_, refl, sym, ap, ap₂, _∙_, subst}
 use mathlib.Core.Bool.{Bool, true, false, cond}
-use mathlib.Core.List.{List, [], _∷_, _++_}
-use mathlib.Core.Logic.{_⊎_, inl, inr, _≢_}
-use Prim.Native.Nat.{ℕ, zero, suc, _+_, _-_, _<_, _≤_}
-use native.Mathlib.Nat.{not-suc-le-zero, le-of-suc-le-suc, zero-add}
+use mathlib.Core.List.{List, [], _∷_}
+use mathlib.Core.Logic.{inl, inr}
+use Prim.Native.Nat.{ℕ, zero, suc, _+_, _<_, _≤_}
 use native.Mathlib.Omega.{arith}
-use lib.Bits.{bitXor, xor-lt, xor-self, xor-zero-r, xor-assoc, xor-comm}
-use lib.Dec.{T, eqb, eqb→eq, eqb-refl, lit<}
-use lib.ListN.{length, getD, take, length-append}
-use Rattle.field.proofs.Linear.{xor4, xor-zero-eq, xor-cancel}
+use lib.Bits.{bitXor, xor-zero-r}
+use lib.Dec.{eqb}
+use lib.ListN.{length, getD}
+use Rattle.field.proofs.Linear.{xor4}
 use Rattle.field.proofs.Laws.{mul-xor-l, mul-zero-l}
 use Rattle.reed_solomon_decoder.proofs.Weighing.{locator}
 use Rattle.reed_solomon_decoder.proofs.Places.{eq-true, eq-false, roots-differ, roots-are, roots-few, located-covered}
-use Rattle.field.specs.Field.{inv, mul, pow}
+use Rattle.field.specs.Field.{mul, pow}
 use Rattle.reed_solomon_algebra.specs.Polynomials.{Elements, value}
 use Rattle.reed_solomon_algebra.specs.Terms.{Apart, Away, Differ, Distinct, Placed, Powers, Small, Term, power-sum, terms}
 use Rattle.reed_solomon_decoder.specs.Errors.{Agrees, Covered, Explains, Has, Roots, Sums-from, at, roots-below}

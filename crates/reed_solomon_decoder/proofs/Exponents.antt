@@ -1,9 +1,9 @@
 -- Terms as exponents of α: lowering one, and their sum as the value of a polynomial.
-use mathlib.Core.Path.{_≡_, refl, sym, ap, ap₂, _∙_, subst}
+use mathlib.Core.Path.{_≡_, sym, ap, ap₂, _∙_}
 use mathlib.Core.Bool.{Bool, true, false, cond}
-use mathlib.Core.Logic.{_⊎_, inl, inr}
+use mathlib.Core.Logic.{inl, inr}
 use mathlib.Core.List.{List, [], _∷_}
-use Prim.Native.Nat.{ℕ, zero, suc, _+_, _-_, _*_, _%_, _<_, _≤_}
+use Prim.Native.Nat.{ℕ, suc, _+_, _-_, _*_, _%_, _<_, _≤_}
 use native.Mathlib.Nat.{add-zero, add-suc, suc-add, zero-add, mod-lt}
 use native.Mathlib.Omega.{arith}
 use lib.Bits.{bitXor, xor-assoc, xor-zero-r}
@@ -13,7 +13,7 @@ use Rattle.std.proofs.shelf.Lists.{drop-more, drop-all}
 use Rattle.std.proofs.shelf.Ways.{leb-tells}
 use Rattle.field.specs.Field.{mul, pow}
 use Rattle.field.specs.Laws.{Exponent-of}
-use Rattle.field.proofs.Laws.{mul-xor-r, mul-lt, mul-comm, mul-assoc, mul-one-l, mul-one-r, mul-zero-r, mul-zero-l, mul-left-comm, mul-mod-l}
+use Rattle.field.proofs.Laws.{mul-xor-r, mul-lt, mul-comm, mul-assoc, mul-one-l, mul-zero-r, mul-zero-l, mul-left-comm, mul-mod-l}
 use Rattle.field.proofs.Powers.{pow-zero, pow-suc, pow-add, pow-lt, pow-pos, mul-cancel}
 use Rattle.field.proofs.Logs.{pow-whole, pow-mod}
 use Rattle.reed_solomon_algebra.specs.Polynomials.{value, Elements}

@@ -1,20 +1,19 @@
 -- The places that the search finds.
-use mathlib.Core.Path.{_≡_, refl, sym, ap, ap₂, _∙_, subst}
+use mathlib.Core.Path.{_≡_, refl, sym, ap, _∙_, subst}
 use mathlib.Core.Bool.{Bool, true, false, cond}
-use mathlib.Core.List.{List, [], _∷_, _++_}
-use mathlib.Core.Logic.{_⊎_, inl, inr, _≢_}
-use Prim.Native.Nat.{ℕ, zero, suc, _+_, _-_, _<_, _≤_}
+use mathlib.Core.List.{List, [], _∷_}
+use mathlib.Core.Logic.{inl, inr, _≢_}
+use Prim.Native.Nat.{ℕ, zero, suc, _<_, _≤_}
 use native.Mathlib.Nat.{not-suc-le-zero, le-of-suc-le-suc}
 use native.Mathlib.Decide.{decLt, ℕ-discrete}
 use native.Mathlib.Omega.{arith}
-use lib.Bits.{bitXor}
-use lib.Dec.{T, eqb, eqb→eq, eqb-refl, lit<}
-use lib.ListN.{length, getD, take, length-append}
+use lib.Dec.{T, eqb, eqb→eq, eqb-refl}
+use lib.ListN.{length, getD}
 use Rattle.field.proofs.Powers.{pow-lt, pow-two-apart}
 use Rattle.reed_solomon_decoder.proofs.Roots.{roots-null}
-use Rattle.field.specs.Field.{mul, pow}
+use Rattle.field.specs.Field.{pow}
 use Rattle.reed_solomon_algebra.specs.Polynomials.{Elements, value}
-use Rattle.reed_solomon_algebra.specs.Terms.{Away, Differ, Distinct, Placed, Small, Term, power-sum}
+use Rattle.reed_solomon_algebra.specs.Terms.{Away, Differ, Placed, Term}
 use Rattle.reed_solomon_decoder.specs.Errors.{Covered, Has, Located, Null, Roots, roots-below}
 
 pub eq-true : (a b : ℕ) → a ≡ b → eqb a b ≡ true

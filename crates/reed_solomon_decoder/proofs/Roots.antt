@@ -1,17 +1,16 @@
 -- A polynomial with as many distinct roots as coefficients is zero.
 use mathlib.Core.Path.{_≡_, refl, sym, ap, ap₂, _∙_, subst}
 use mathlib.Core.List.{List, [], _∷_}
-use mathlib.Core.Logic.{_⊎_, inl, inr, _≢_}
-use Prim.Native.Nat.{ℕ, zero, suc, _+_, _<_, _≤_}
+use mathlib.Core.Logic.{inl, inr}
+use Prim.Native.Nat.{ℕ, zero, suc, _<_, _≤_}
 use native.Mathlib.Nat.{not-suc-le-zero, le-of-suc-le-suc}
-use native.Mathlib.Omega.{arith}
-use lib.Bits.{bitXor, xor-lt, xor-self, xor-zero-r, xor-assoc, xor-comm}
-use lib.ListN.{length, getD}
-use Rattle.field.proofs.Linear.{xor4, xor-zero-eq, xor-cancel}
-use Rattle.field.proofs.Laws.{mul-xor-r, mul-xor-l, mul-lt, mul-comm, mul-assoc, mul-one-r, mul-one-l, mul-zero-r, mul-zero-l, mul-left-comm}
+use lib.Bits.{bitXor, xor-lt, xor-self, xor-assoc, xor-comm}
+use lib.ListN.{length}
+use Rattle.field.proofs.Linear.{xor-zero-eq, xor-cancel}
+use Rattle.field.proofs.Laws.{mul-xor-r, mul-xor-l, mul-zero-r, mul-left-comm}
 use Rattle.field.proofs.Powers.{mul-zero}
 use Rattle.reed_solomon_decoder.proofs.Weighing.{value-lt}
-use Rattle.field.specs.Field.{mul, pow}
+use Rattle.field.specs.Field.{mul}
 use Rattle.reed_solomon_algebra.specs.Polynomials.{Elements, value}
 use Rattle.reed_solomon_algebra.specs.Terms.{Away, Differ}
 use Rattle.reed_solomon_decoder.specs.Errors.{Null, Roots}

@@ -1,20 +1,20 @@
 -- Elimination of one window from the rows.
-use mathlib.Core.Path.{_≡_, refl, sym, ap, ap₂, _∙_, subst}
+use mathlib.Core.Path.{_≡_, sym, ap, ap₂, _∙_, subst}
 use mathlib.Core.List.{List, [], _∷_}
-use mathlib.Core.Logic.{_⊎_, inl, inr, _≢_}
-use Prim.Native.Nat.{ℕ, zero, suc, _+_, _-_, _<_, _≤_}
-use native.Mathlib.Nat.{not-suc-le-zero, le-of-suc-le-suc, add-zero}
+use mathlib.Core.Logic.{_≢_}
+use Prim.Native.Nat.{ℕ, suc, _+_, _<_, _≤_}
+use native.Mathlib.Nat.{not-suc-le-zero}
 use native.Mathlib.Decide.{decLt, ℕ-discrete}
 use native.Mathlib.Omega.{arith}
-use lib.Bits.{bitXor, xor-lt, xor-self, xor-zero-r, xor-assoc, xor-comm}
+use lib.Bits.{bitXor, xor-lt, xor-self, xor-zero-r}
 use lib.Dec.{lit<}
 use lib.ListN.{length, getD, drop}
-use Rattle.field.proofs.Linear.{xor4, xor-zero-eq, xor-cancel}
-use Rattle.field.proofs.Laws.{mul-xor-r, mul-xor-l, mul-lt, mul-comm, mul-assoc, mul-one-r, mul-one-l, mul-zero-r, mul-zero-l, mul-left-comm}
+use Rattle.field.proofs.Linear.{xor4}
+use Rattle.field.proofs.Laws.{mul-xor-r, mul-xor-l, mul-lt, mul-comm, mul-assoc, mul-one-r, mul-zero-r}
 use Rattle.field.proofs.Powers.{mul-inv}
 use Rattle.field.specs.Field.{inv, mul}
 use Rattle.reed_solomon_algebra.specs.Polynomials.{Elements}
-use Rattle.reed_solomon_decoder.specs.Errors.{Null, dot}
+use Rattle.reed_solomon_decoder.specs.Errors.{dot}
 use Rattle.reed_solomon_decoder.specs.Kernel.{Fresh, Kernel, Kills, Locator, Plus}
 
 suc-inj : (a b : ℕ) → suc a ≡ suc b → a ≡ b

@@ -4,14 +4,17 @@ use mathlib.Core.List.{List, [], _∷_, _++_}
 use mathlib.Core.Logic.{_≢_}
 use Prim.Native.Nat.{ℕ, zero, suc, _+_, _-_, _<_, _≤_}
 use native.Mathlib.Omega.{arith}
-use lib.ListN.{length, getD, take, set, length-append}
-use lib.Seq.{getD-take}
+use lib.ListN.{length, getD, take, set, length-append, length-set}
+use lib.Seq.{getD-take, getD-set-same, getD-set-other}
+use borrow.Author.Count.{below-more}
 use Rattle.std.proofs.shelf.Lists.{length-take-le, take-more, take-more-set, append-assoc, append-nil}
 use Rattle.field.specs.Field.{pow}
 use Rattle.field.proofs.Powers.{pow-lt}
 use Rattle.reed_solomon_algebra.specs.Polynomials.{value, Elements}
 use Rattle.reed_solomon_algebra.specs.Terms.{Differ}
 use Rattle.reed_solomon_decoder.specs.Errors.{Null, located, roots-below}
+use Rattle.reed_solomon_decoder.specs.Exponents.{Lowered, terms-sum}
+use Rattle.reed_solomon_decoder.proofs.Exponents.{sum-value}
 use Rattle.reed_solomon_decoder.proofs.Places.{roots-yes, roots-no, roots-few, roots-differ}
 
 -- ---- the locators of places
@@ -111,3 +114,56 @@ cut k w n ps all u short few wide wide-all found made =
       elements = subst Elements (sym is) (located-elements n (take k ps));
       differ = subst Differ (sym (is ∙ found)) (roots-differ u n short);
     }
+
+-- ---- a turn at place s of a line of n symbols, with room for w places
+
+-- the sum of the terms at a place is the value at its locator
+pub sum-is : (n : ℕ) (u es : List ℕ) (s : ℕ) → s < n → Elements u → length es ≡ length u → Lowered u (n - s) es
+    → terms-sum es ≡ value (pow 2 (n - 1 - s)) u
+sum-is n u es s here b l low =
+    let up : n - s ≡ suc (n - 1 - s) = omega arith in
+    sum-value u (n - 1 - s) es b l (subst (λ (m : ℕ). Lowered u m es) up low)
+
+-- the places found, with the roots that the places after s have
+pub record Turned (n w : ℕ) (u ps : List ℕ) (count s : ℕ) : Type 0 where
+  pub found : located n (take count ps) ++ roots-below u (n - (s + 1)) ≡ roots-below u n
+  pub few : count ≤ w
+  pub wide : length ps ≡ w
+  pub within : (i : ℕ) → i < count → getD ps i 0 < n
+
+module _ (n w : ℕ) (u ps : List ℕ) (count s : ℕ) (short : n ≤ 1023) (here : s < n) (b : Elements u) (lu : length u ≡ suc w) (nz : Null u → ⊥)
+    (found : located n (take count ps) ++ roots-below u (n - s) ≡ roots-below u n)
+    (few : count ≤ w) (wide : length ps ≡ w) (within : (i : ℕ) → i < count → getD ps i 0 < n) where
+  found-up : located n (take count ps) ++ roots-below u (suc (n - 1 - s)) ≡ roots-below u n
+  found-up =
+      let up : suc (n - 1 - s) ≡ n - s = omega arith in
+      ap (λ (m : ℕ). located n (take count ps) ++ roots-below u m) up ∙ found
+
+  down : n - 1 - s ≡ n - (s + 1)
+  down = omega arith
+
+  pub free : value (pow 2 (n - 1 - s)) u ≡ 0 → count < w
+  free z = room u ps count (n - 1 - s) n w short b lu nz wide few z found-up
+
+  pub turned-yes : value (pow 2 (n - 1 - s)) u ≡ 0 → Turned n w u (set ps count s) (count + 1) s
+  turned-yes z =
+      let h : count < w = free z in
+      record {
+        found = ap (λ (m : ℕ). located n (take (count + 1) (set ps count s)) ++ roots-below u m) (sym down)
+            ∙ found-more u ps count (n - 1 - s) n s (omega arith) refl z found-up;
+        few = omega arith;
+        wide = length-set ps count s ∙ wide;
+        within = below-more (λ (i : ℕ). getD (set ps count s) i 0 < n) count
+            (λ i l. let ne : i ≢ count = omega arith in subst (λ (x : ℕ). x < n) (sym (getD-set-other ps count i s 0 ne)) (within i l))
+            (subst (λ (x : ℕ). x < n) (sym (getD-set-same ps count s 0 (omega arith))) here);
+      }
+
+  pub turned-no : (value (pow 2 (n - 1 - s)) u ≡ 0 → ⊥) → Turned n w u ps count s
+  turned-no ne =
+      record {
+        found = ap (λ (m : ℕ). located n (take count ps) ++ roots-below u m) (sym down)
+            ∙ found-not u ps count (n - 1 - s) n ne found-up;
+        few = few;
+        wide = wide;
+        within = within;
+      }

@@ -1,13 +1,12 @@
 -- Power sums by raising each part by its locator.
 use mathlib.Core.Path.{_≡_, refl, sym, ap, ap₂, _∙_}
 use mathlib.Core.List.{List, [], _∷_}
-use Prim.Native.Nat.{ℕ, zero, suc, _+_, _<_, _≤_}
+use Prim.Native.Nat.{ℕ, suc, _+_, _<_, _≤_}
 use native.Mathlib.Numerals.{add-one}
 use native.Mathlib.Omega.{arith}
 use lib.Bits.{bitXor, xor-assoc, xor-zero-r}
 use lib.ListN.{length, getD, take, drop}
-use lib.Seq.{getD-take}
-use Rattle.std.proofs.shelf.Lists.{drop-more, drop-all, length-take-le}
+use Rattle.std.proofs.shelf.Lists.{drop-more, drop-all}
 use Rattle.field.specs.Field.{mul, pow}
 use Rattle.field.proofs.Laws.{mul-comm, mul-assoc, mul-one-r}
 use Rattle.field.proofs.Powers.{pow-zero, pow-suc}

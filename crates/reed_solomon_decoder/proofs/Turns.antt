@@ -1,18 +1,16 @@
 -- What a turn of a loop does, against the definitions.
-use mathlib.Core.Path.{_≡_, refl, sym, ap, ap₂, _∙_, subst}
+use mathlib.Core.Path.{_≡_, sym, ap, ap₂, _∙_}
 use mathlib.Core.List.{List, [], _∷_}
-use mathlib.Core.Logic.{_⊎_, inl, inr, _≢_}
 use Prim.Native.Nat.{ℕ, zero, suc, _+_, _-_, _<_, _≤_}
 use native.Mathlib.Decide.{decLt}
 use native.Mathlib.Omega.{arith}
-use lib.Bits.{bitXor, xor-lt, xor-self, xor-zero-r, xor-assoc, xor-comm}
+use lib.Bits.{bitXor, xor-zero-r, xor-assoc}
 use lib.Dec.{lit<}
-use lib.ListN.{length, getD, drop, take, set, replicate, length-drop}
+use lib.ListN.{length, getD, drop, take, set, replicate}
 use Rattle.std.proofs.shelf.Lists.{drop-more, drop-all, getD-past, take-rest}
-use Rattle.field.proofs.Laws.{mul-lt, mul-zero-r}
-use Rattle.field.specs.Field.{inv, mul, pow}
-use Rattle.reed_solomon_algebra.specs.Polynomials.{Elements, value}
-use Rattle.reed_solomon_algebra.specs.Terms.{power-sum, terms}
+use Rattle.field.proofs.Laws.{mul-zero-r}
+use Rattle.field.specs.Field.{mul}
+use Rattle.reed_solomon_algebra.specs.Polynomials.{Elements}
 use Rattle.reed_solomon_decoder.specs.Errors.{dot}
 use Rattle.reed_solomon_decoder.specs.Kernel.{Plus}
 

@@ -1,23 +1,23 @@
 -- The values at the places.
 use mathlib.Core.Path.{_≡_, refl, sym, ap, ap₂, _∙_, subst}
 use mathlib.Core.Bool.{Bool, true, false, cond}
-use mathlib.Core.List.{List, [], _∷_, _++_}
-use mathlib.Core.Logic.{_⊎_, inl, inr, _≢_}
-use Prim.Native.Nat.{ℕ, zero, suc, _+_, _-_, _<_, _≤_}
-use native.Mathlib.Nat.{not-suc-le-zero, le-of-suc-le-suc}
-use native.Mathlib.Decide.{decLt, ℕ-discrete}
+use mathlib.Core.List.{List, [], _∷_}
+use mathlib.Core.Logic.{inl, inr, _≢_}
+use Prim.Native.Nat.{ℕ, zero, suc, _<_}
+use native.Mathlib.Nat.{not-suc-le-zero}
+use native.Mathlib.Decide.{ℕ-discrete}
 use native.Mathlib.Omega.{arith}
-use lib.Bits.{bitXor, xor-lt, xor-self, xor-zero-r, xor-assoc, xor-comm}
+use lib.Bits.{bitXor, xor-lt, xor-self}
 use lib.Dec.{T, eqb, eqb→eq, eqb-refl, lit<}
-use lib.ListN.{length, getD, take, length-append}
-use Rattle.field.proofs.Linear.{xor4, xor-zero-eq, xor-cancel}
-use Rattle.field.proofs.Laws.{mul-xor-r, mul-xor-l, mul-lt, mul-comm, mul-assoc, mul-one-r, mul-one-l, mul-zero-r, mul-zero-l, mul-left-comm}
-use Rattle.field.proofs.Powers.{pow-suc, pow-zero, pow-lt, mul-zero, mul-pos, mul-inv}
+use lib.ListN.{length, getD}
+use Rattle.field.proofs.Linear.{xor4, xor-zero-eq}
+use Rattle.field.proofs.Laws.{mul-xor-r, mul-xor-l, mul-lt, mul-assoc, mul-one-r, mul-zero-r, mul-zero-l, mul-left-comm}
+use Rattle.field.proofs.Powers.{pow-suc, pow-zero, mul-pos, mul-inv}
 use Rattle.reed_solomon_decoder.proofs.Places.{differ-at, has-at, eq-true, eq-false}
 use Rattle.field.specs.Field.{inv, mul, pow}
 use Rattle.reed_solomon_algebra.specs.Polynomials.{Elements}
-use Rattle.reed_solomon_algebra.specs.Terms.{Differ, Distinct, Small, Term, power-sum, terms}
-use Rattle.reed_solomon_decoder.specs.Errors.{Agrees, Covered, Has, Sums-from, at, passed, weigh-by}
+use Rattle.reed_solomon_algebra.specs.Terms.{Differ, Small, Term, power-sum}
+use Rattle.reed_solomon_decoder.specs.Errors.{Covered, Has, at, passed, weigh-by}
 
 pub passed-skip : (xs : List ℕ) (i k y : ℕ) → k ≡ i → passed xs i (suc k) y ≡ passed xs i k y
 unfolding passed

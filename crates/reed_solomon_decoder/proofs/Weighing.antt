@@ -1,23 +1,21 @@
 -- The sum of a polynomial's coefficients with power sums is a power sum of the weighed terms.
 use mathlib.Core.Path.{_≡_, refl, sym, ap, ap₂, _∙_, subst}
-use mathlib.Core.Bool.{Bool, true, false, cond}
 use mathlib.Core.List.{List, [], _∷_}
-use mathlib.Core.Logic.{_⊎_, inl, inr, _≢_}
-use Prim.Native.Nat.{ℕ, zero, suc, _+_, _<_, _≤_}
+use Prim.Native.Nat.{ℕ, suc, _+_, _<_, _≤_}
 use native.Mathlib.Nat.{not-suc-le-zero, le-of-suc-le-suc, add-zero, add-suc, suc-add}
 use native.Mathlib.Omega.{arith}
-use lib.Bits.{bitXor, xor-lt, xor-self, xor-zero-r, xor-assoc, xor-comm}
-use lib.Dec.{eqb, eqb→eq, eqb-refl, lit<}
-use lib.ListN.{length, getD, drop, length-drop}
+use lib.Bits.{bitXor, xor-lt}
+use lib.Dec.{lit<}
+use lib.ListN.{length, drop, length-drop}
 use lib.Seq.{getD-drop}
-use Rattle.field.proofs.Linear.{xor4, xor-zero-eq}
-use Rattle.field.proofs.Laws.{mul-xor-r, mul-xor-l, mul-lt, mul-comm, mul-assoc, mul-one-r, mul-one-l, mul-zero-r, mul-zero-l, mul-left-comm}
-use Rattle.field.proofs.Powers.{pow-suc, pow-zero, pow-lt, mul-zero}
+use Rattle.field.proofs.Linear.{xor4}
+use Rattle.field.proofs.Laws.{mul-xor-r, mul-xor-l, mul-lt, mul-comm, mul-assoc, mul-zero-r, mul-zero-l, mul-left-comm}
+use Rattle.field.proofs.Powers.{pow-suc, mul-zero}
 use Rattle.reed_solomon_algebra.proofs.KeyLemma.{key-lemma}
 use Rattle.field.specs.Field.{mul, pow}
 use Rattle.reed_solomon_algebra.specs.Polynomials.{Elements, value}
 use Rattle.reed_solomon_algebra.specs.Terms.{Apart, Distinct, Small, Term, Vanish, power-sum}
-use Rattle.reed_solomon_decoder.specs.Errors.{Located, Sums-from, at, dot, weigh}
+use Rattle.reed_solomon_decoder.specs.Errors.{Located, Sums-from, dot, weigh}
 
 weigh-length : (p : List ℕ) (ts : List Term) → length (weigh p ts) ≡ length ts
 unfolding weigh

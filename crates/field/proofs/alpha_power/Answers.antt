@@ -1,3 +1,4 @@
+-- What is left to show of `alpha_power`.
 use mathlib.Core.Path.{_∙_, subst, sym}
 use Prim.Native.Nat.{ℕ, _<_}
 use Rattle.field.proofs.Powers.{alpha-laws, pow-lt}

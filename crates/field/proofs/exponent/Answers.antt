@@ -1,6 +1,6 @@
-use mathlib.Core.Path.{_≡_, sym, _∙_, subst}
-use Prim.Native.Nat.{ℕ, _%_}
-use native.Mathlib.Omega.{arith}
+-- What is left to show of `exponent`.
+use mathlib.Core.Path.{sym, _∙_, subst}
+use Prim.Native.Nat.{ℕ}
 use lib.Bits.{and-mask}
 use Rattle.field.specs.Laws.{Exponent-of}
 use Rattle.field.proofs.exponent.Needs as need

@@ -1,5 +1,6 @@
+-- What is left to show of `inverse`.
 use mathlib.Core.Path.{_≡_, sym, ap, _∙_, subst}
-use Prim.Native.Nat.{ℕ, suc, _+_, _-_, _<_}
+use Prim.Native.Nat.{ℕ, suc, _+_, _-_}
 use native.Mathlib.Omega.{arith}
 use lib.Dec.{lit<}
 use Rattle.field.specs.Field.{mul, inv}

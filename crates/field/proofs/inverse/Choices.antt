@@ -1,3 +1,4 @@
+-- What the loops of `inverse` keep true.
 use mathlib.Core.Path.{_≡_}
 use Prim.Native.Nat.{_-_, _<_}
 use Rattle.field.specs.Field.{mul, inv}

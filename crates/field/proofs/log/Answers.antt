@@ -1,3 +1,4 @@
+-- What is left to show of `log`.
 use Rattle.field.proofs.Logs.{logs-at}
 use Rattle.field.proofs.log.Needs as need
 

@@ -1,10 +1,10 @@
-use mathlib.Core.Path.{_≡_, refl, sym, ap, subst, _∙_}
+-- What is left to show of `product`.
+use mathlib.Core.Path.{_≡_, sym, ap, subst, _∙_}
 use mathlib.Core.Logic.{inl, inr}
-use Prim.Native.Nat.{ℕ, _+_, _-_, _%_, _<_}
-use native.Mathlib.Omega.{arith}
+use Prim.Native.Nat.{ℕ, _+_, _<_}
 use lib.Bits.{bitAnd, and-mask}
 use lib.Dec.{lit<}
-use Rattle.field.specs.Field.{mul, pow}
+use Rattle.field.specs.Field.{mul}
 use Rattle.field.proofs.Laws.{mul-lt, mul-zero-l, mul-zero-r, mul-mod-l, mul-mod-r}
 use Rattle.field.proofs.Powers.{pow-add}
 use Rattle.field.proofs.Logs.{pow-whole}

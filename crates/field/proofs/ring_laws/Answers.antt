@@ -1,3 +1,4 @@
+-- What is left to show of `ring_laws`.
 use lib.Bits.{xor-assoc, xor-comm, xor-self, xor-zero-r, xor-lt}
 use Rattle.field.proofs.Laws.{mul-lt, mul-comm, mul-assoc, mul-xor-r, mul-one-r}
 use Rattle.field.proofs.ring_laws.Needs as need

@@ -1,3 +1,4 @@
+-- What is left to show of `generator`.
 use mathlib.Core.Path.{refl}
 use Rattle.field.specs.Field.{mul, mul-lowest, times-x, pow}
 use Rattle.reed_solomon_algebra.specs.Polynomials.{plus, scale, times}

@@ -1,15 +1,14 @@
-use mathlib.Core.Path.{_≡_, refl, sym, ap, ap₂, subst, _∙_}
-use mathlib.Core.Logic.{_≢_}
+-- What is left to show of `correct`.
+use mathlib.Core.Path.{_≡_, refl, sym, ap, ap₂, _∙_}
 use mathlib.Core.List.{List}
-use Prim.Native.Nat.{ℕ, _+_, _<_, _≤_}
+use Prim.Native.Nat.{ℕ, _+_, _<_}
 use native.Mathlib.Nat.{zero-add, add-zero}
 use native.Mathlib.Omega.{arith}
-use lib.Bits.{bitXor}
 use lib.Dec.{lit≤}
-use lib.ListN.{length, getD, set, length-set}
+use lib.ListN.{length, getD}
 use Rattle.code.specs.Distance.{distance}
 use Rattle.code.proofs.Metric.{distance-self}
-use Rattle.reed_solomon_algebra.specs.Terms.{Distinct, locators}
+use Rattle.reed_solomon_algebra.specs.Terms.{locators}
 use Rattle.reed_solomon.specs.Corrected.{corrected}
 use Rattle.reed_solomon.proofs.Correcting.{errors-from, turn-distinct, turn-set, turn-skip, turn-count, turns-done}
 use Rattle.reed_solomon.proofs.correction.correct.Needs as need

@@ -1,5 +1,6 @@
+-- What the loops of `correct` keep true.
 use mathlib.Core.Path.{_≡_}
-use Prim.Native.Nat.{ℕ, _+_, _≤_}
+use Prim.Native.Nat.{_+_, _≤_}
 use Rattle.code.specs.Distance.{distance}
 use Rattle.reed_solomon_algebra.specs.Terms.{Distinct, locators}
 use Rattle.reed_solomon.specs.Corrected.{corrected}

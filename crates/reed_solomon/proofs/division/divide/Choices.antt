@@ -1,5 +1,6 @@
+-- What the loops of `divide` keep true.
 use mathlib.Core.Path.{_≡_}
-use lib.ListN.{length, drop}
+use lib.ListN.{drop}
 use Rattle.symbols.specs.Symbols.{Symbols}
 use Rattle.reed_solomon_algebra.specs.Division.{below-first, remainder, parity}
 use Rattle.reed_solomon.proofs.division.divide.Given as given

@@ -1,7 +1,7 @@
-use mathlib.Core.Path.{_≡_, _∙_}
-use Prim.Native.Nat.{ℕ, _<_}
+-- What is left to show of `feed`.
+use mathlib.Core.Path.{_∙_}
 use native.Mathlib.Omega.{arith}
-use lib.Bits.{bitXor, xor-lt}
+use lib.Bits.{xor-lt}
 use lib.Dec.{lit<}
 use lib.ListN.{getD}
 use Rattle.reed_solomon.proofs.Register.{stepped}

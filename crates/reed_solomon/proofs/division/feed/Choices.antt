@@ -1,3 +1,4 @@
+-- What the loops of `feed` keep true.
 use mathlib.Core.Path.{_≡_}
 use Prim.Native.Nat.{ℕ, suc, _<_, _≤_}
 use lib.Bits.{bitXor}

@@ -1,3 +1,4 @@
+-- What is left to show of `high_multiple`.
 use Prim.Native.Nat.{_/_}
 use native.Mathlib.Omega.{arith}
 use Rattle.field.specs.Field.{mul, mul-lowest, times-x}

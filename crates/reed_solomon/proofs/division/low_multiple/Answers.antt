@@ -1,5 +1,6 @@
-use mathlib.Core.Path.{_≡_, ap, _∙_}
-use Prim.Native.Nat.{ℕ, _*_, _%_}
+-- What is left to show of `low_multiple`.
+use mathlib.Core.Path.{ap, _∙_}
+use Prim.Native.Nat.{ℕ, _%_}
 use native.Mathlib.Nat.{mod-lt, mul-one}
 use lib.Dec.{lit<}
 use lib.ListN.{getD}

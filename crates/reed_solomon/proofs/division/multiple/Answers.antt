@@ -1,4 +1,5 @@
-use mathlib.Core.Path.{_≡_, ap₂, _∙_}
+-- What is left to show of `multiple`.
+use mathlib.Core.Path.{ap₂, _∙_}
 use lib.Bits.{bitXor}
 use lib.ListN.{getD}
 use Rattle.reed_solomon_algebra.specs.Division.{below-first}

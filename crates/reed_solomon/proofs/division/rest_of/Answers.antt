@@ -1,11 +1,13 @@
-use mathlib.Core.Path.{_≡_, refl, sym, ap, ap₂, _∙_}
+-- What is left to show of `rest_of`.
+use mathlib.Core.Path.{_≡_, refl, ap, _∙_}
 use mathlib.Core.Logic.{_≢_}
 use mathlib.Core.List.{List}
-use Prim.Native.Nat.{ℕ, _+_, _<_, _≤_}
+use Prim.Native.Nat.{ℕ, _+_}
 use native.Mathlib.Nat.{not-suc-le-zero}
 use native.Mathlib.Omega.{arith}
 use borrow.Author.Count.{below-more}
 use lib.Bits.{bitXor}
+use lib.Dec.{lit≤}
 use lib.ListN.{length, getD, set, take, length-set}
 use lib.Seq.{getD-set-same, getD-set-other}
 use Rattle.reed_solomon.proofs.Rests.{take-symbols, rest-is, parity-length}
@@ -16,7 +18,7 @@ divide-requires c κs = record { sized = refl; symbols = take-symbols 514 (c .ar
 
 pub loop-k-holds : need.loop-k-holds
 loop-k-holds c =
-    ((λ i h. absurd (not-suc-le-zero h)), (λ i h. refl), ap length (c .divide .ensures) ∙ parity-length (take 514 (c .args .line .now)))
+    ((λ i h. absurd (not-suc-le-zero h)), (λ i h. refl), ap length (c .divide .ensures) ∙ parity-length 7 (take 514 (c .args .line .now)))
 
 pub loop-k-again : need.loop-k-again
 loop-k-again c =
@@ -35,6 +37,6 @@ loop-k-again c =
 
 pub returns : need.returns
 returns c =
-    rest-is (c .args .line .now) (c .loop-k .rest) (c .pre .sized) (c .loop-k .inv .2)
+    rest-is 7 (lit≤ tt) (c .args .line .now) (c .pre .sized) (c .pre .symbols) (c .loop-k .rest) (c .loop-k .inv .2)
     (λ i h. c .loop-k .inv .0 i (omega arith)
     ∙ ap (λ (l : List ℕ). bitXor (getD l i 0) (getD (c .args .line .now) (514 + i) 0)) (c .divide .ensures))

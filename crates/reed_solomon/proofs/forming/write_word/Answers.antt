@@ -1,5 +1,6 @@
+-- What is left to show of `write_word`.
 use mathlib.Core.Path.{sym, _∙_}
-use Rattle.reed_solomon.proofs.Register.{formed, front-length, tail-length}
+use Rattle.reed_solomon.proofs.Register.{formed, front-length}
 use Rattle.reed_solomon.proofs.forming.write_word.Needs as need
 
 pub part-copy-from-slice-end-2 : need.part-copy-from-slice-end-2

@@ -1,22 +1,21 @@
+-- What is left to show of `repair`.
 use mathlib.Core.Path.{_≡_, refl, sym, ap, subst, _∙_}
 use mathlib.Core.List.{List}
-use Prim.Native.Nat.{ℕ, _-_, _<_, _≤_}
+use Prim.Native.Nat.{ℕ, _-_, _<_}
 use native.Mathlib.Omega.{arith}
 use lib.Dec.{lit≤}
-use lib.ListN.{length, getD, take, drop, replicate}
+use lib.ListN.{length, getD, take, replicate}
 use Rattle.std.specs.Lexical.{matches-decides}
-use Rattle.code.specs.Distance.{distance}
 use Rattle.code.proofs.Metric.{distance-self}
 use Rattle.field.specs.Field.{pow}
 use Rattle.symbols.specs.Symbols.{Symbols}
-use Rattle.reed_solomon_algebra.specs.Polynomials.{value, plus}
+use Rattle.reed_solomon_algebra.specs.Polynomials.{value}
 use Rattle.reed_solomon_algebra.specs.CodeWords.{Code-word, polynomial}
-use Rattle.reed_solomon_algebra.specs.Division.{parity}
 use Rattle.reed_solomon_algebra.specs.Terms.{Term, Distinct, locators, terms, difference}
-use Rattle.reed_solomon_decoder.specs.Errors.{Explains, located}
+use Rattle.reed_solomon_decoder.specs.Errors.{located}
 use Rattle.reed_solomon_decoder.proofs.Searching.{cut-length, cut-within}
 use Rattle.reed_solomon.specs.Corrected.{corrected}
-use Rattle.reed_solomon.proofs.Rests.{rest-syndromes, clean-word}
+use Rattle.reed_solomon.proofs.Rests.{rest-of, rest-syndromes, clean-word}
 use Rattle.reed_solomon.proofs.Nearness.{Syndromes, near-explains, explained-word}
 use Rattle.reed_solomon.proofs.repair.repair.Needs as need
 
@@ -26,15 +25,15 @@ returns-then-eq c =
     let none : c .rest-of-rest .result ≡ replicate 14 0 =
     matches-decides (c .rest-of-rest .result) (replicate 14 0) (c .eq .result) (c .eq .ensures) .0 (c .if-eq .taken) in
     record {
-      word = clean-word line (c .pre .sized) (c .pre .symbols) (sym (c .rest-of-rest .ensures) ∙ none);
+      word = clean-word 7 (lit≤ tt) line (c .pre .sized) (c .pre .symbols) (sym (c .rest-of-rest .ensures) ∙ none);
       answer = sym (distance-self line);
       near = lit≤ tt;
     }
 
-syndromes-of : (line rest s : List ℕ) → length line ≡ 528 → Symbols line → rest ≡ plus (parity 7 (take 514 line)) (drop 514 line)
+syndromes-of : (line rest s : List ℕ) → length line ≡ 528 → Symbols line → rest ≡ rest-of 7 line
     → ((j : ℕ) → j < 14 → getD s j 0 ≡ value (pow 2 j) (polynomial rest)) → Syndromes 14 line s
 syndromes-of line rest s long symbols is h =
-    rest-syndromes line long symbols s (λ j q. h j q ∙ ap (λ (r : List ℕ). value (pow 2 j) (polynomial r)) is)
+    rest-syndromes 7 (lit≤ tt) line long symbols s (λ j q. h j q ∙ ap (λ (r : List ℕ). value (pow 2 j) (polynomial r)) is)
 
 -- the places as the code cuts them
 uncut : (k : ℕ) (ps : List ℕ) → located 528 (take (k - 0) ps) ≡ located 528 (take k ps)

@@ -1,9 +1,10 @@
-use mathlib.Core.Path.{_≡_, sym, ap, _∙_}
+-- What is left to show of `value_at`.
+use mathlib.Core.Path.{sym, ap, _∙_}
 use mathlib.Core.List.{List, reverse}
 use Prim.Native.Nat.{ℕ}
 use native.Mathlib.Omega.{arith}
 use lib.Bits.{bitXor}
-use lib.ListN.{getD, take}
+use lib.ListN.{getD}
 use Rattle.std.proofs.shelf.Lists.{take-all}
 use Rattle.field.specs.Field.{mul}
 use Rattle.reed_solomon_algebra.specs.Polynomials.{value}

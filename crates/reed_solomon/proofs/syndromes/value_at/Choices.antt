@@ -1,3 +1,4 @@
+-- What the loops of `value_at` keep true.
 use mathlib.Core.Path.{_≡_}
 use mathlib.Core.List.{reverse}
 use lib.ListN.{take}

@@ -1,4 +1,5 @@
-use mathlib.Core.Path.{_≡_, refl}
+-- What is left to show of `dot_with`.
+use mathlib.Core.Path.{refl}
 use native.Mathlib.Omega.{arith}
 use Rattle.reed_solomon_decoder.proofs.Turns.{dot-turn, dot-end}
 use Rattle.reed_solomon_decoder.proofs.elimination.dot_with.Needs as need

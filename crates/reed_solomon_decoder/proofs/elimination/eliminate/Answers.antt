@@ -1,18 +1,17 @@
-use mathlib.Core.Path.{_≡_, refl, sym, ap, ap₂, _∙_, subst}
+-- What is left to show of `eliminate`.
+use mathlib.Core.Path.{_≡_, sym, ap, _∙_, subst}
 use mathlib.Core.List.{List, []}
 use mathlib.Core.Logic.{_≢_}
-use Prim.Native.Nat.{ℕ, _+_, _-_, _<_, _≤_}
-use native.Mathlib.Decide.{decLt, ℕ-discrete}
+use Prim.Native.Nat.{ℕ, _+_}
+use native.Mathlib.Decide.{ℕ-discrete}
 use native.Mathlib.Omega.{arith}
-use lib.Bits.{bitXor}
 use lib.ListN.{length, getD, set, drop, length-set}
 use lib.Seq.{getD-set-same, getD-set-other}
 use Rattle.reed_solomon_decoder.proofs.Rows.{Reduced, reduced-row, kernel-step}
 use Rattle.reed_solomon_decoder.proofs.elimination.eliminate.Needs as need
-use Rattle.field.specs.Field.{inv, mul}
-use Rattle.reed_solomon_algebra.specs.Polynomials.{Elements}
+use Rattle.field.specs.Field.{inv}
 use Rattle.reed_solomon_decoder.specs.Errors.{dot}
-use Rattle.reed_solomon_decoder.specs.Kernel.{Kernel, Plus}
+use Rattle.reed_solomon_decoder.specs.Kernel.{Plus}
 
 pub loop-i-again : need.loop-i-again
 loop-i-again c =

@@ -1,3 +1,4 @@
+-- What the loops of `pivot_at` keep true.
 use mathlib.Core.Path.{_≡_}
 use mathlib.Core.List.{[]}
 use Prim.Native.Nat.{ℕ, _<_}

@@ -1,7 +1,5 @@
-use mathlib.Core.Path.{_≡_}
-use Prim.Native.Nat.{ℕ, _<_, _≤_}
+-- What is left to show of `reduced`.
 use native.Mathlib.Omega.{arith}
-use lib.ListN.{length}
 use Rattle.reed_solomon_decoder.proofs.Turns.{plus-all}
 use Rattle.reed_solomon_decoder.proofs.elimination.reduced.Needs as need
 

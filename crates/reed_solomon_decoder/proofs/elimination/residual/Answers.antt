@@ -1,8 +1,9 @@
-use mathlib.Core.Path.{_≡_, sym, ap, _∙_, subst}
+-- What is left to show of `residual`.
+use mathlib.Core.Path.{sym, ap, _∙_, subst}
 use mathlib.Core.List.{List}
 use Prim.Native.Nat.{ℕ, _≤_}
 use native.Mathlib.Omega.{arith}
-use lib.ListN.{length, drop, length-drop}
+use lib.ListN.{length, length-drop}
 use Rattle.reed_solomon_decoder.specs.Errors.{dot}
 use Rattle.reed_solomon_decoder.proofs.Turns.{window}
 use Rattle.reed_solomon_decoder.proofs.elimination.residual.Needs as need

@@ -1,19 +1,20 @@
-use mathlib.Core.Path.{_≡_, refl, sym, ap, subst, _∙_}
-use mathlib.Core.Bool.{Bool, true, false, cond}
+-- What is left to show of `decode`.
+use mathlib.Core.Path.{_≡_, refl, sym, subst, _∙_}
+use mathlib.Core.Bool.{Bool, true, cond}
 use mathlib.Core.Logic.{_≢_}
 use mathlib.Core.List.{List}
-use Prim.Native.Nat.{ℕ, _+_, _-_, _<_, _≤_}
+use Prim.Native.Nat.{ℕ, _-_, _≤_}
 use native.Mathlib.Nat.{not-suc-le-zero}
 use native.Mathlib.Omega.{arith}
 use borrow.Author.Count.{below-more}
 use lib.Dec.{lit≤}
-use lib.ListN.{length, getD, take, set, length-set}
+use lib.ListN.{getD, take, set, length-set}
 use lib.Seq.{getD-set-same, getD-set-other}
-use Rattle.reed_solomon_algebra.specs.Terms.{Term, terms}
+use Rattle.reed_solomon_algebra.specs.Terms.{terms}
 use Rattle.reed_solomon_decoder.specs.Errors.{Agrees, Explains, located}
 use Rattle.reed_solomon_decoder.proofs.Turns.{elements-set, elements-zeros}
 use Rattle.reed_solomon_decoder.proofs.Composition.{passes, must-pass}
-use Rattle.reed_solomon_decoder.proofs.Searching.{cut-length, cut-within, Cut, cut}
+use Rattle.reed_solomon_decoder.proofs.Searching.{cut-length, cut-within, cut}
 use Rattle.reed_solomon_decoder.proofs.errors.decode.Needs as need
 
 pub locators-of-all-requires : need.locators-of-all-requires

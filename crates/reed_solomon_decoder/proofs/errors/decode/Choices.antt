@@ -1,3 +1,4 @@
+-- What the loops of `decode` keep true.
 use mathlib.Core.Path.{_≡_}
 use mathlib.Core.List.{List}
 use Prim.Native.Nat.{ℕ, _<_}

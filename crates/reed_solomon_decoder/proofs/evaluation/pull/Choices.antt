@@ -1,3 +1,4 @@
+-- What the loops of `pull` keep true.
 use mathlib.Core.Path.{_≡_}
 use Prim.Native.Nat.{ℕ, _+_, _<_, _≤_}
 use lib.Bits.{bitXor}

@@ -1,4 +1,5 @@
-use mathlib.Core.Path.{_≡_, refl}
+-- What is left to show of `sum`.
+use mathlib.Core.Path.{refl}
 use Rattle.reed_solomon_decoder.proofs.Sums.{sum-turn, sum-end}
 use Rattle.reed_solomon_decoder.proofs.evaluation.sum.Needs as need
 

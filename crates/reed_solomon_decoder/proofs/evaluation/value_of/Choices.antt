@@ -1,3 +1,4 @@
+-- What the loops of `value_of` keep true.
 use mathlib.Core.Path.{_≡_}
 use mathlib.Core.List.{List}
 use Prim.Native.Nat.{ℕ, _+_, _<_}

@@ -1,3 +1,4 @@
+-- What is left to show of `exponent_of`.
 use Rattle.reed_solomon_decoder.proofs.Exponents.{some-exponent, no-exponent}
 use Rattle.reed_solomon_decoder.proofs.search.exponent_of.Needs as need
 

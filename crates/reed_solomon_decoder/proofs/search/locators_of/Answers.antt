@@ -1,8 +1,9 @@
-use mathlib.Core.Path.{_≡_, refl, sym, ap, ap₂, _∙_}
+-- What is left to show of `locators_of`.
+use mathlib.Core.Path.{_≡_, refl, sym, ap, _∙_}
 use mathlib.Core.List.{List}
-use Prim.Native.Nat.{ℕ, _+_, _-_, _<_, _≤_}
+use Prim.Native.Nat.{ℕ}
 use native.Mathlib.Omega.{arith}
-use lib.ListN.{length, getD, take, set, length-set}
+use lib.ListN.{length, take, length-set}
 use Rattle.std.proofs.shelf.Lists.{take-all}
 use Rattle.reed_solomon_decoder.specs.Errors.{located}
 use Rattle.reed_solomon_decoder.proofs.Searching.{locators-more}

@@ -1,3 +1,4 @@
+-- What the loops of `locators_of` keep true.
 use mathlib.Core.Path.{_≡_}
 use lib.ListN.{length, take}
 use Rattle.reed_solomon_decoder.specs.Errors.{located}

@@ -1,3 +1,4 @@
+-- What is left to show of `lowered`.
 use native.Mathlib.Omega.{arith}
 use Rattle.reed_solomon_decoder.proofs.Exponents.{lowered-none, lowered-down, lowered-around}
 use Rattle.reed_solomon_decoder.proofs.search.lowered.Needs as need

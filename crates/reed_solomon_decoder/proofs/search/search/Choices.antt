@@ -1,3 +1,4 @@
+-- What the loops of `search` keep true.
 use mathlib.Core.Path.{_≡_}
 use mathlib.Core.List.{_++_}
 use Prim.Native.Nat.{ℕ, _-_, _<_, _≤_}

@@ -1,3 +1,4 @@
+-- What the loops of `sum_of_terms` keep true.
 use mathlib.Core.Path.{_≡_}
 use lib.Bits.{bitXor}
 use lib.ListN.{drop}

@@ -1,3 +1,4 @@
+-- What is left to show of `term`.
 use mathlib.Core.Path.{sym, _∙_}
 use Rattle.reed_solomon_decoder.proofs.Exponents.{term-power, term-none}
 use Rattle.reed_solomon_decoder.proofs.search.term.Needs as need

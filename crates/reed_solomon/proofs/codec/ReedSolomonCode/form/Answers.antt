@@ -1,5 +1,6 @@
+-- What is left to show of `form`.
 use borrow.Author.Needs.{needs}
-use mathlib.Core.Path.{_≡_, sym, subst}
+use mathlib.Core.Path.{sym, subst}
 use lib.Dec.{lit≤}
 use Rattle.symbols.specs.Symbols.{Message}
 use Rattle.reed_solomon_algebra.specs.CodeWords.{Word-of}

@@ -1,4 +1,5 @@
-use mathlib.Core.Path.{_≡_, refl}
+-- What is left to show of `mend`.
+use mathlib.Core.Path.{refl}
 use lib.Dec.{lit≤}
 use Rattle.reed_solomon.proofs.Mending.{front-message, front-word, hopeless-far}
 use Rattle.reed_solomon.proofs.codec.ReedSolomonCode.mend.Needs as need
