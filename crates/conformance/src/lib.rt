@@ -13,3 +13,5 @@ mod ports;
 mod reed_solomon_lines;
 #[cfg(test)]
 mod reed_solomon_words;
+#[cfg(test)]
+mod training_signals;

@@ -6,6 +6,7 @@ use code::bare::Bare;
 use code::bare::BareCode;
 use code::correction_off::CorrectionOff;
 use code::correction_off::CorrectionOffCode;
+use code::interface::Code;
 use code::refusal::CodeRefusal;
 use code::refusal::CodeRefusalDebug;
 use code::refusal::CodeRefusalPartialEq;
@@ -21,8 +22,11 @@ use port::state::Port;
 use port::totals::Totals;
 use port::totals::TotalsDebug;
 use port::totals::TotalsPartialEq;
+use reed_solomon::codec::ReedSolomon;
+use reed_solomon::codec::ReedSolomonCode;
 use std::test::*;
 use words::word::Word;
+use words::word::WordPartialEq;
 
 const LIMIT: u64 = 1 << 40;
 
@@ -35,12 +39,15 @@ fn totals(accepted: u64, dropped: u64, mended: u64) -> Totals {
 }
 
 // What opening a port with these totals answers, and what one reading of a written line answers then.
-fn opened(opening: Totals) -> Result<Totals, PortRefusal> {
-    let mut port = Port::open(Bare, opening)?;
+fn opened<C: Code + Drop>(
+    code: C,
+    line: &mut [u16],
+    opening: Totals,
+) -> Result<Totals, PortRefusal> {
+    let mut port = Port::open(code, opening)?;
     let mut words = [Word::Data(5); 80];
-    let mut line = [0u16; 514];
-    port.write(&words, &mut line)?;
-    port.read(&mut line, &mut words)?;
+    port.write(&words, line)?;
+    port.read(line, &mut words)?;
     Ok(port.totals())
 }
 
@@ -56,7 +63,21 @@ fn opens_up_to_the_limit() -> Result<(), Fail> {
         (totals(u64::MAX, 2, u64::MAX), Err(PortRefusal::Opening)),
     ];
     for (opening, answer) in table {
-        check_eq(opened(opening), answer)?;
+        check_eq(opened(Bare, &mut [0u16; 514], opening), answer)?;
+    }
+    Ok(())
+}
+
+// A code that mends up to 7 symbols leaves that much room below the limit.
+#[test]
+fn leaves_room_for_seven() -> Result<(), Fail> {
+    let table = [
+        (totals(0, 0, LIMIT - 7), Ok(totals(1, 0, LIMIT - 7))),
+        (totals(0, 0, LIMIT - 6), Err(PortRefusal::Full)),
+        (totals(LIMIT - 1, 0, 0), Ok(totals(LIMIT, 0, 0))),
+    ];
+    for (opening, answer) in table {
+        check_eq(opened(ReedSolomon, &mut [0u16; 528], opening), answer)?;
     }
     Ok(())
 }
@@ -122,4 +143,82 @@ fn refuses_wrong_lengths() -> Result<(), Fail> {
         Err(PortRefusal::Length),
     )?;
     check_eq(port.totals(), totals(0, 0, 0))
+}
+
+// Writes, spoils so many symbols and reads: whether the words came back, and the totals.
+fn carried<C: Code + Drop>(
+    code: C,
+    line: &mut [u16],
+    wrong: usize,
+) -> Result<(bool, Totals), PortRefusal> {
+    let mut port = Port::open(code, totals(0, 0, 0))?;
+    let sent = [Word::Data(0x0123_4567_89ab_cdef); 80];
+    port.write(&sent, line)?;
+    for (i, symbol) in line.iter_mut().enumerate() {
+        if i % 70 == 3 && i / 70 < wrong {
+            *symbol ^= 0x3ff;
+        }
+    }
+    let mut words = [Word::Data(0); 80];
+    let _ = port.read(line, &mut words);
+    Ok((words == sent, port.totals()))
+}
+
+#[test]
+fn goes_over_every_pile() -> Result<(), Fail> {
+    for wrong in 0..8 {
+        let mended = totals(1, 0, wrong as u64);
+        check_eq(
+            carried(ReedSolomon, &mut [0u16; 528], wrong)?,
+            (true, mended),
+        )?;
+        check_eq(
+            carried(Scrambled { inner: ReedSolomon }, &mut [0u16; 528], wrong)?,
+            (true, mended),
+        )?;
+    }
+    check_eq(
+        carried(Scrambled { inner: ReedSolomon }, &mut [0u16; 528], 8)?,
+        (false, totals(0, 1, 0)),
+    )?;
+    check_eq(carried(Bare, &mut [0u16; 514], 0)?, (true, totals(1, 0, 0)))
+}
+
+#[test]
+fn accepts_code_words_only_with_correction_off() -> Result<(), Fail> {
+    for (wrong, answer) in [
+        (0, (true, totals(1, 0, 0))),
+        (1, (false, totals(0, 1, 0))),
+        (7, (false, totals(0, 1, 0))),
+    ] {
+        check_eq(
+            carried(
+                CorrectionOff { inner: ReedSolomon },
+                &mut [0u16; 528],
+                wrong,
+            )?,
+            answer,
+        )?;
+        check_eq(
+            carried(
+                CorrectionOff {
+                    inner: Scrambled { inner: ReedSolomon },
+                },
+                &mut [0u16; 528],
+                wrong,
+            )?,
+            answer,
+        )?;
+        check_eq(
+            carried(
+                Scrambled {
+                    inner: CorrectionOff { inner: ReedSolomon },
+                },
+                &mut [0u16; 528],
+                wrong,
+            )?,
+            answer,
+        )?;
+    }
+    Ok(())
 }

@@ -143,5 +143,7 @@ pub fn show(rt: &LibcRuntime) -> Result<(), AnyError> {
     )?;
     let mut short = [0u16; 514];
     walk(rt, "the bare code", Bare, &mut short)?;
-    refused(rt)
+    refused(rt)?;
+    println!(rt)?;
+    Ok(())
 }

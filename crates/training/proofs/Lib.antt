@@ -1,0 +1,3 @@
+-- Lemmas on the numbers of records.
+pub mod Numbering
+pub mod OneRecord
