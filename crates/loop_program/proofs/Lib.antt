@@ -1,0 +1,1 @@
+-- The program has no lemmas of its own.

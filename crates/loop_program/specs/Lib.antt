@@ -1,0 +1,1 @@
+-- The program has no specs of its own.
