@@ -11,7 +11,7 @@ uint32_t l32_mend(uint16_t *line, size_t line_len, uint16_t *message, size_t mes
 uint32_t l32_write(const uint64_t *bodies, size_t bodies_len, uint16_t *line, size_t line_len);
 uint32_t l32_read(uint16_t *line, size_t line_len, uint64_t *bodies, size_t bodies_len);
 
-enum { N = 528, K = 514, LINES = 256, WORDS = 80 };
+enum { N = 528, K = 514, LINES = 4096, TURNS = 2, WORDS = 80 };
 
 static uint16_t lines[LINES][N], spoilt[LINES][N], scratch[N], message[K];
 static uint64_t bodies[LINES][WORDS], read_back[WORDS];
@@ -75,12 +75,12 @@ static void run(const char *name, void (*call)(int)) {
     for (int pass = 0; pass < 5; pass++) {
         refused = other = 0;
         double start = now();
-        for (int turn = 0; turn < 8; turn++)
+        for (int turn = 0; turn < TURNS; turn++)
             for (int i = 0; i < LINES; i++) call(i);
-        double each = (now() - start) / (8 * LINES);
+        double each = (now() - start) / (TURNS * LINES);
         if (each < best) best = each;
     }
-    printf("%-44s %9.2f us %10.0f lines/s   refused %4ld, other %4ld of %d\n", name, best * 1e6, 1 / best, refused / 8, other / 8, LINES);
+    printf("%-44s %9.2f us %10.0f lines/s   refused %4ld, other %4ld of %d\n", name, best * 1e6, 1 / best, refused / TURNS, other / TURNS, LINES);
 }
 
 int main(void) {
