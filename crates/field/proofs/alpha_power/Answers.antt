@@ -7,14 +7,14 @@ use Rattle.field.proofs.alpha_power.Goals as goal
 pub returns-then-i-lt-ORDER : goal.returns-then-i-lt-ORDER
 returns-then-i-lt-ORDER c =
     record {
-      value = c.power-below.ensures;
-      small = subst (λ (x : ℕ). x < 1024) (sym c.power-below.ensures) (pow_lt 2 c.args.i);
+      value = c.power_below.ensures;
+      small = subst (λ (x : ℕ). x < 1024) (sym c.power_below.ensures) (pow_lt 2 c.args.i);
       laws = alpha_laws;
     }
 
 pub returns-else-i-lt-ORDER : goal.returns-else-i-lt-ORDER
 returns-else-i-lt-ORDER c =
-    let value = c.power-below-else-i-lt-ORDER.ensures ∙ pow_mod c.args.i in
+    let value = c.power_below-else-i-lt-ORDER.ensures ∙ pow_mod c.args.i in
     record {
       value = value;
       small = subst (λ (x : ℕ). x < 1024) (sym value) (pow_lt 2 c.args.i);

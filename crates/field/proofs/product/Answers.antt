@@ -31,13 +31,13 @@ pub returns-then-sum-lt-ORDER : goal.returns-then-sum-lt-ORDER
 returns-then-sum-lt-ORDER c =
     let e = pow_add 2 c.log.result c.log-2.result in
     let w = of_lowest c.args.a c.args.b in
-    let value : c.power-below.result ≡ mul c.args.a c.args.b = cc in
-    record { value = value; small = small c.power-below.result c.args.a c.args.b value }
+    let value : c.power_below.result ≡ mul c.args.a c.args.b = cc in
+    record { value = value; small = small c.power_below.result c.args.a c.args.b value }
 
 pub returns-else-sum-lt-ORDER : goal.returns-else-sum-lt-ORDER
 returns-else-sum-lt-ORDER c =
     let e = pow_add 2 c.log.result c.log-2.result in
     let whole = pow_whole (c.log.result + c.log-2.result) c.if-sum-lt-ORDER.false in
     let w = of_lowest c.args.a c.args.b in
-    let value : c.power-below-else-sum-lt-ORDER.result ≡ mul c.args.a c.args.b = cc in
-    record { value = value; small = small c.power-below-else-sum-lt-ORDER.result c.args.a c.args.b value }
+    let value : c.power_below-else-sum-lt-ORDER.result ≡ mul c.args.a c.args.b = cc in
+    record { value = value; small = small c.power_below-else-sum-lt-ORDER.result c.args.a c.args.b value }
