@@ -1,15 +1,27 @@
--- Scrambling over any code: it keeps the law, and what a mending below it means above it.
+-- The bare code obeys the law. Scrambling over any code keeps it, and what a mending below it means above it.
 use Rattle.std.specs.Prelude.{◌≡◌, ℕ, List, length}
-use Rattle.std.proofs.Common.{sym, ap, ◌∙◌, subst, arith}
+use Rattle.std.proofs.Common.{sym, ap, ◌∙◌, subst, arith, rules}
 use Rattle.symbols.specs.Symbols.{Symbols}
 use Rattle.code.specs.Distance.{distance}
-use Rattle.code.specs.Codes.{Model, Lawful, Far}
+use Rattle.code.specs.Codes.{Model, Lawful, Far, bare}
 use Rattle.code.specs.Calls.{Sized, MendedOk, MendRefused}
 use Rattle.code.specs.Layers.{with_key, scrambled}
 use Rattle.code.specs.declared.refusal.CodeRefusal.{CodeRefusal}
 use Rattle.code.specs.declared.refusal.CodeRefusal.TheVariants.{Length, Symbol, NoCodeWord}
+use Rattle.code.specs.Metric.{distance_zero}
 use Rattle.code.specs.Once.{no_above}
 use Rattle.code.specs.Scrambling.{length_with_key, key_laws, across}
+
+-- different messages differ in a place at least
+pub bare_lawful : Lawful bare
+bare_lawful = record {
+  n_low = search rules;
+  n_high = search rules;
+  t_high = search rules;
+  long = λ x m. m.long;
+  symbols = λ x m. m.symbols;
+  apart = λ x y m k d. let z : distance x y ≡ 0 → x ≡ y = distance_zero x y (m.long ∙ sym k.long) in grind arith;
+}
 
 pub scrambled_lawful : (m : Model) → Lawful m → Lawful (scrambled m)
 scrambled_lawful m law = record {

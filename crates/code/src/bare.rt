@@ -1,9 +1,6 @@
 // The code that adds nothing to a message and mends nothing.
 ghost use Rattle.code.specs.Codes.{bare as bare_model};
-ghost use Rattle.std.specs.Prelude.{◌≡◌};
-ghost use Rattle.std.proofs.Common.{sym, ◌∙◌, arith, rules};
-ghost use Rattle.code.specs.Distance.{distance};
-ghost use Rattle.code.specs.Metric.{distance_zero};
+ghost use Rattle.code.specs.Layered.{bare_lawful};
 
 use crate::interface::{Code, check_lengths, check_symbols};
 use crate::refusal::CodeRefusal;
@@ -16,15 +13,7 @@ pub struct Bare;
 impl Code for Bare {
     ghost model = { λ _. bare_model };
 
-    ghost lawful = { λ c.
-        record {
-          n_low = search rules;
-          n_high = search rules;
-          t_high = search rules;
-          long = λ x m. m.long;
-          symbols = λ x m. m.symbols;
-          apart = λ x y m k d. let z : distance x y ≡ 0 → x ≡ y = distance_zero x y (m.long ∙ sym k.long) in Prim.grind arith;
-        } };
+    ghost lawful = { λ _. bare_lawful };
 
     fn n(&self) -> usize {
         MESSAGE_LENGTH

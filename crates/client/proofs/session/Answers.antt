@@ -13,7 +13,7 @@ loop-i-preserved g c =
 pub returns : goal.returns
 returns g c =
     let i = c.loop-i.invariant in
-    let b = c.in-ok-port.ensures in
+    let b = c.in_ok-port.ensures in
     let n : length i.0 ≡ c.args.readings = omega arith in
-    finish g.C.Code.model c.args.code c.in-ok-port.port.code c.args.opening c.in-ok-port.port.totals c.loop-i.port.totals c.totals.result i.0 _ c.args.readings
+    finish g.C.Code.model c.args.code c.in_ok-port.port.code c.args.opening c.in_ok-port.port.totals c.loop-i.port.totals c.totals.result i.0 _ c.args.readings
     b.made.0 b.begins c.write.ensures.extends i.3 c.totals.ensures.value b.promise n

@@ -9,8 +9,8 @@ typed k h e l = rw e (restored_type k l)
 told : (k h : ℕ) → h ≡ high (k % 16 % 16) → h ≡ high (k % 16)
 told k h e = let s : k % 16 % 16 ≡ k % 16 = omega arith in e ∙ ap high s
 
-pub overflow-add-body-2 : goal.overflow-add-body-2
-overflow-add-body-2 c = let s = high_small (c.args.kept % 16) (omega arith) in omega (arith, told c.args.kept c.high-nibble.result c.high-nibble.ensures)
+pub overflow_add-body-2 : goal.overflow_add-body-2
+overflow_add-body-2 c = let s = high_small (c.args.kept % 16) (omega arith) in omega (arith, told c.args.kept c.high_nibble.result c.high_nibble.ensures)
 
-pub invariant-of-result : goal.invariant-of-result
-invariant-of-result c = (typed c.args.kept c.high-nibble.result (told c.args.kept c.high-nibble.result c.high-nibble.ensures) (omega arith), tt)
+pub invariant_of-result : goal.invariant_of-result
+invariant_of-result c = (typed c.args.kept c.high_nibble.result (told c.args.kept c.high_nibble.result c.high_nibble.ensures) (omega arith), tt)

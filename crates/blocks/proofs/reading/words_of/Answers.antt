@@ -10,14 +10,14 @@ loop-j-init c =
     let l = limbs_more c.args.block.now.limbs 0 (omega arith) in
     (omega arith, c.start-acc.ensures.fits, ap read_block l ∙ c.start-acc.ensures.starts _)
 
-pub returns-in-err-word : goal.returns-in-err-word
-returns-in-err-word c =
-    let p = err_from_is_err_and c.from-residual.result c.from-residual.ensures.1 in
-    rw (p.1, p.2) (refused c.loop-j.words c.args.block.now.limbs c.loop-j.j c.loop-j.acc c.loop-j.marks c.loop-j.cut (read_block (packed 64 c.args.block.now.limbs)) c.loop-j.invariant.2 c.joined.result c.in-err-word.field-0.0 (omega arith) (omega arith) c.joined.ensures.value c.in-err-word.ensures)
+pub returns-in_err-word : goal.returns-in_err-word
+returns-in_err-word c =
+    let p = err_from_is_err_and c.from_residual.result c.from_residual.ensures.1 in
+    rw (p.1, p.2) (refused c.loop-j.words c.args.block.now.limbs c.loop-j.j c.loop-j.acc c.loop-j.marks c.loop-j.cut (read_block (packed 64 c.args.block.now.limbs)) c.loop-j.invariant.2 c.joined.result c.in_err-word.field-0.0 (omega arith) (omega arith) c.joined.ensures.value c.in_err-word.ensures)
 
 pub loop-j-preserved : goal.loop-j-preserved
 loop-j-preserved c =
-    let t = c.in-ok-word.ensures in (
+    let t = c.in_ok-word.ensures in (
       rw length-set c.loop-j.invariant.0,
       t.fits,
       one_more c.loop-j.words c.args.block.now.limbs c.loop-j.j c.loop-j.acc c.loop-j.marks c.loop-j.cut (read_block (packed 64 c.args.block.now.limbs)) c.loop-j.invariant.2 _ c.joined.result _ _ (omega arith) (omega arith) (omega arith) c.joined.ensures.value t,

@@ -17,8 +17,8 @@ valid_more ws j w h v u = rw (take_more ws j w h, map-append raw (take j ws) (ge
 rest_more : (ws : List Word) (j : ℕ) (w : Word) → j < length ws → raws (drop j ws) ≡ raw (get_or ws j w) ∷ raws (drop (j + 1) ws)
 rest_more ws j w h = ap raws (drop_more ws j w h)
 
-pub overflow-add-acc : goal.overflow-add-acc
-overflow-add-acc c =
+pub overflow_add-acc : goal.overflow_add-acc
+overflow_add-acc c =
     let f = c.placed-bits.ensures.fits c.loop-j.acc c.loop-j.invariant.1 in
     let b = weight_le c.placed-bits.result.1 in
     omega arith
@@ -48,8 +48,8 @@ done ws limbs j acc cut j4 n n5 e v =
     let n' : length (raws ws) ≡ 4 = length-map ws raw ∙ n in
     record { meaning = m; valid = a; narrow = rw m (block_lt (raws ws) n' a) }
 
-pub invariant-of-result : goal.invariant-of-result
-invariant-of-result c =
+pub invariant_of-result : goal.invariant_of-result
+invariant_of-result c =
     ((done c.args.words.now c.loop-j.limbs c.loop-j.j c.loop-j.acc c.loop-j.cutting (omega arith) (omega arith) c.loop-j.invariant.0 c.loop-j.invariant.2 c.loop-j.invariant.3).narrow, tt)
 
 pub returns : goal.returns

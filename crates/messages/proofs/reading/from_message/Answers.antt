@@ -27,7 +27,7 @@ returns-in-Some c =
 pub returns : goal.returns
 returns c =
     let xs = c.args.message.now in
-    let s = c.in-default.ensures in
+    let s = c.in_default.ensures in
     let t = c.read.ensures in
     record {
       rules = message_read xs c.read.result (omega arith) s t;

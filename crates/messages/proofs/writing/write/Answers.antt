@@ -16,9 +16,9 @@ loop-b-preserved c =
     let v = c.of-block.ensures.value ∙ ap (λ (l : List Word). block (raws l)) g in
     let u = rw g at c.of-block.ensures.valid in
     let i : 4 * (c.loop-b.b + 1) ≡ 4 * c.loop-b.b + 4 = omega arith in (
-      c.push-block-pen.ensures.ready,
+      c.push_block-pen.ensures.ready,
       omega arith,
-      turn c.loop-b.b _ (message 20 (raws ws)) ws (omega arith) v c.push-block-pen.ensures inv.2,
+      turn c.loop-b.b _ (message 20 (raws ws)) ws (omega arith) v c.push_block-pen.ensures inv.2,
       rw i (valid_four ws (4 * c.loop-b.b) inv.3 u),
     )
 

@@ -5,19 +5,19 @@ use Rattle.signal.specs.Calls.{Marked}
 use Rattle.signal.proofs.Bits.{length_bits}
 use Rattle.recording.proofs.Markers.{marker_fits, marker_place, marker_stands}
 use Rattle.recording.proofs.finding.find.Goals as goal
-use Rattle.recording.proofs.finding.find.Goals.{then-end-lt-MARKER-TUI-via-then-end-lt-MARKER-TUI, then-end-lt-MARKER-TUI-via-else-end-lt-MARKER-TUI+then-place-end}
+use Rattle.recording.proofs.finding.find.Goals.{then-end-lt-MARKER_TUI-via-then-end-lt-MARKER_TUI, then-end-lt-MARKER_TUI-via-else-end-lt-MARKER_TUI+then-place-end}
 
-pub returns-then-end-lt-MARKER-TUI : goal.returns-then-end-lt-MARKER-TUI
-returns-then-end-lt-MARKER-TUI c =
+pub returns-then-end-lt-MARKER_TUI : goal.returns-then-end-lt-MARKER_TUI
+returns-then-end-lt-MARKER_TUI c =
     let bits = bits_of c.args.recording.now in
     let long = length_bits c.args.recording.now in (
       refl,
       omega arith,
       λ q h m.
           let fits = marker_fits bits q m in
-          elim c.then-end-lt-MARKER-TUI.branch [
-            | then-end-lt-MARKER-TUI-via-then-end-lt-MARKER-TUI w ↦ omega arith
-            | then-end-lt-MARKER-TUI-via-else-end-lt-MARKER-TUI+then-place-end w ↦ c.search.invariant.1 q h (omega arith) m
+          elim c.then-end-lt-MARKER_TUI.branch [
+            | then-end-lt-MARKER_TUI-via-then-end-lt-MARKER_TUI w ↦ omega arith
+            | then-end-lt-MARKER_TUI-via-else-end-lt-MARKER_TUI+then-place-end w ↦ c.search.invariant.1 q h (omega arith) m
           ],
     )
 
@@ -26,7 +26,7 @@ search-preserved c =
     let bits = bits_of c.args.recording.now in
     let p = c.loop-k.place in
     let here : c.args.start ≤ p → Marked bits p → ⊥ =
-    λ h m. c.if-tui-at-marker-tui.true (c.tui-at.ensures.level ∙ marker_place bits p c.loop-k.k m (omega arith) ∙ sym c.marker-tui.ensures) in (
+    λ h m. c.if-tui_at-marker_tui.true (c.tui_at.ensures.level ∙ marker_place bits p c.loop-k.k m (omega arith) ∙ sym c.marker_tui.ensures) in (
       omega arith,
       λ q h l m. below_more (λ r. c.args.start ≤ r → Marked bits r → ⊥) p (λ r rl rh rm. c.search.invariant.1 r rh (omega arith) rm) here q l h m,
     )

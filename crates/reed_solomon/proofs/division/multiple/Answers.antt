@@ -7,5 +7,5 @@ use Rattle.reed_solomon.proofs.division.multiple.Goals as goal
 
 pub returns : goal.returns
 returns c =
-    ap₂ bit_xor c.low-multiple.ensures c.high-multiple.ensures
+    ap₂ bit_xor c.low_multiple.ensures c.high_multiple.ensures
     ∙ mul_halves c.args.factor (get_or (below_first 14) c.args.k 0)

@@ -18,10 +18,10 @@ use Rattle.std.proofs.lemmas.Slice.Eq.{slice_eq-Decides}
 pub returns-then-eq : goal.returns-then-eq
 returns-then-eq c =
     let line : List ℕ = c.args.line.now in
-    let none : c.rest-of-rest.result ≡ replicate 14 0 =
-    (slice_eq-Decides Decides-eqb c.rest-of-rest.result (replicate 14 0) c.eq.result c.eq.ensures).0 c.if-eq.true in
+    let none : c.rest_of-rest.result ≡ replicate 14 0 =
+    (slice_eq-Decides Decides-eqb c.rest_of-rest.result (replicate 14 0) c.eq.result c.eq.ensures).0 c.if-eq.true in
     record {
-      word = clean_word 7 (lit≤ tt) line c.requires.sized c.requires.symbols (sym c.rest-of-rest.ensures ∙ none);
+      word = clean_word 7 (lit≤ tt) line c.requires.sized c.requires.symbols (sym c.rest_of-rest.ensures ∙ none);
       answer = sym (distance_self line);
       near = lit≤ tt;
     }
@@ -61,7 +61,7 @@ returns-in-Some c =
     record {
       word = subst (CodeWord 7) (sym after)
           (explained_word 7 (lit≤ tt) line s c.requires.sized c.requires.symbols c.syndromes.ensures.wide
-          (syndromes_of line c.rest-of-rest.result s c.requires.sized c.requires.symbols c.rest-of-rest.ensures c.syndromes.ensures.values)
+          (syndromes_of line c.rest_of-rest.result s c.requires.sized c.requires.symbols c.rest_of-rest.ensures c.syndromes.ensures.values)
           e listing.explains);
       answer = c.correct.ensures.count;
       near = omega (arith, c.correct.ensures.few, cut_length k 7 ps listing.few listing.places_wide, listing.few);
@@ -74,7 +74,7 @@ returns-in-None c =
       (λ word w d.
           c.in-None.ensures (difference line word (locators 528))
           (near_explains 7 (lit≤ tt) line s c.requires.sized c.requires.symbols c.syndromes.ensures.wide
-          (syndromes_of line c.rest-of-rest.result s c.requires.sized c.requires.symbols c.rest-of-rest.ensures c.syndromes.ensures.values)
+          (syndromes_of line c.rest_of-rest.result s c.requires.sized c.requires.symbols c.rest_of-rest.ensures c.syndromes.ensures.values)
           word w d)),
       refl,
     )

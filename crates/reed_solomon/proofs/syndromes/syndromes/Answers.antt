@@ -10,10 +10,10 @@ loop-j-preserved c =
     let now : List ℕ = c.loop-j.all in
     let rest : List ℕ = c.args.rest.now in
     let j : ℕ = c.loop-j.j in
-    let v : ℕ = c.value-at.result in (
+    let v : ℕ = c.value_at.result in (
       below_more (λ (i : ℕ). get_or (set now j v) i 0 ≡ value (pow 2 i) (polynomial rest)) j
           (λ i h. let ne : i ≢ j = omega arith in get_or-set_other now j i v 0 ne ∙ c.loop-j.invariant.0 i h)
-          (get_or-set_same now j v 0 (omega arith) ∙ c.value-at.ensures ∙ ap (λ (x : ℕ). value x (polynomial rest)) c.alpha-power.ensures.value),
+          (get_or-set_same now j v 0 (omega arith) ∙ c.value_at.ensures ∙ ap (λ (x : ℕ). value x (polynomial rest)) c.alpha_power.ensures.value),
       length-set now j v ∙ c.loop-j.invariant.1,
     )
 

@@ -13,7 +13,7 @@ loop-i-preserved c =
     let now : List (List ℕ) = c.loop-i.rows in
     let s : List ℕ = c.args.s.now in
     let i = c.loop-i.i in
-    let first = c.pivot-at-first.result in
+    let first = c.pivot_at-first.result in
     let next : get_or now (i + 1) [] ≡ get_or rows (i + 1) [] = c.loop-i.invariant.2 (i + 1) (omega arith) in
     let width : length (get_or rows (i + 1) []) ≡ 8 = c.requires.kernel.wide (i + 1) (omega arith) in
     let row : Reduced s c.args.j c.reduced.result (get_or rows (i + 1) []) (get_or rows first []) =
@@ -21,7 +21,7 @@ loop-i-preserved c =
     c.residual-in-loop-i.result c.residual.result c.inverse-scale.result c.product-c.result
     (c.reduced.ensures.wide ∙ sym width) (c.requires.kernel.wide first (omega arith) ∙ sym width)
     (c.residual-in-loop-i.ensures ∙ ap (λ (u : List ℕ). dot u (drop c.args.j s)) next)
-    c.residual.ensures (c.pivot-at-first.ensures.found (omega arith))
+    c.residual.ensures (c.pivot_at-first.ensures.found (omega arith))
     c.inverse-scale.ensures.value c.product-c.ensures.value
     (subst (λ (u : List ℕ). Plus c.reduced.result u c.product-c.result (get_or rows first [])) next c.reduced.ensures.sum) in (
       (λ k h. let ne : k ≢ i = omega arith in get_or-set_other now i k c.reduced.result [] ne ∙ c.loop-i.invariant.0 k h),
@@ -41,6 +41,6 @@ loop-i-preserved c =
 
 pub returns : goal.returns
 returns c =
-    kernel_step 8 c.args.s.now c.args.j c.args.last c.pivot-at-first.result c.args.rows.now c.loop-i.rows
-    c.requires.kernel c.pivot-at-first.ensures.within c.pivot-at-first.ensures.clear
+    kernel_step 8 c.args.s.now c.args.j c.args.last c.pivot_at-first.result c.args.rows.now c.loop-i.rows
+    c.requires.kernel c.pivot_at-first.ensures.within c.pivot_at-first.ensures.clear
     c.loop-i.invariant.0 (λ i l h. c.loop-i.invariant.1 i l (omega arith))

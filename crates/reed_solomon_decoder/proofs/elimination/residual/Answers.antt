@@ -4,11 +4,11 @@ use Rattle.reed_solomon_decoder.specs.Errors.{dot}
 use Rattle.reed_solomon_decoder.proofs.Turns.{window}
 use Rattle.reed_solomon_decoder.proofs.elimination.residual.Goals as goal
 
-pub dot-with-requires : goal.dot-with-requires
-dot-with-requires c =
+pub dot_with-requires : goal.dot_with-requires
+dot_with-requires c =
     let s : List ℕ = c.args.s.now in
     subst (λ (v : List ℕ). length c.args.row.now ≤ length v) (sym (window s c.args.j 14 (omega arith)))
     (omega (arith, length-drop c.args.j s))
 
 pub returns : goal.returns
-returns c = c.dot-with.ensures ∙ ap (dot c.args.row.now) (window c.args.s.now c.args.j 14 (omega arith))
+returns c = c.dot_with.ensures ∙ ap (dot c.args.row.now) (window c.args.s.now c.args.j 14 (omega arith))

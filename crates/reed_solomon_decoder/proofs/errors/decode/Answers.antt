@@ -7,8 +7,8 @@ use Rattle.reed_solomon_decoder.proofs.Composition.{passes, must_pass}
 use Rattle.reed_solomon_decoder.proofs.Searching.{cut_length, cut_within, cut}
 use Rattle.reed_solomon_decoder.proofs.errors.decode.Goals as goal
 
-pub locators-of-all-requires : goal.locators-of-all-requires
-locators-of-all-requires c =
+pub locators_of-all-requires : goal.locators_of-all-requires
+locators_of-all-requires c =
     let found = c.search-found.ensures in
     record {
       few = omega (arith, cut_length c.search-found.result.count 7 c.search-found.result.places found.few found.wide, found.few);
@@ -23,14 +23,14 @@ loop-i-init c = (
   (
     c.locator-u.result,
     c.locator-u.ensures,
-    cut c.search-found.result.count 7 528 c.search-found.result.places c.locators-of-all.result c.locator-u.result (lit≤ tt)
-        c.search-found.ensures.few c.search-found.ensures.wide c.locators-of-all.ensures.wide
-        c.search-found.ensures.found c.locators-of-all.ensures.located,
+    cut c.search-found.result.count 7 528 c.search-found.result.places c.locators_of-all.result c.locator-u.result (lit≤ tt)
+        c.search-found.ensures.few c.search-found.ensures.wide c.locators_of-all.ensures.wide
+        c.search-found.ensures.found c.locators_of-all.ensures.located,
   ),
 )
 
-pub value-of-requires : goal.value-of-requires
-value-of-requires c =
+pub value_of-requires : goal.value_of-requires
+value_of-requires c =
     let found = c.loop-i.invariant.3.2 in
     record {
       fits = (omega (arith, found.long), omega (arith, found.long, c.search-found.ensures.few));
@@ -40,17 +40,17 @@ value-of-requires c =
 
 pub loop-i-preserved : goal.loop-i-preserved
 loop-i-preserved c =
-    let xs : List ℕ = take (c.search-found.result.count - 0) c.locators-of-all.result in
+    let xs : List ℕ = take (c.search-found.result.count - 0) c.locators_of-all.result in
     let s : List ℕ = c.args.s.now in
     let values : List ℕ = c.loop-i.values in
     let i : ℕ = c.loop-i.i in
-    let v : ℕ = c.value-of.result in
+    let v : ℕ = c.value_of.result in
     let few : c.search-found.result.count ≤ 7 = c.search-found.ensures.few in (
       below_more (λ (k : ℕ). Agrees s xs (get_or xs k 0) (get_or (set values i v) k 0)) i
           (λ k h. let ne : k ≢ i = omega arith in
           subst (Agrees s xs (get_or xs k 0)) (sym (get_or-set_other values i k v 0 ne)) (c.loop-i.invariant.0 k h))
-          (subst (Agrees s xs (get_or xs i 0)) (sym (get_or-set_same values i v 0 (omega arith))) c.value-of.ensures.value),
-      elements_set values i v c.loop-i.invariant.1 c.value-of.ensures.small,
+          (subst (Agrees s xs (get_or xs i 0)) (sym (get_or-set_same values i v 0 (omega arith))) c.value_of.ensures.value),
+      elements_set values i v c.loop-i.invariant.1 c.value_of.ensures.small,
       length-set values i v ∙ c.loop-i.invariant.2,
       c.loop-i.invariant.3,
     )
@@ -62,7 +62,7 @@ explained-requires c =
 pub returns-then-explained : goal.returns-then-explained
 returns-then-explained c =
     let s : List ℕ = c.args.s.now in
-    let xs : List ℕ = take (c.search-found.result.count - 0) c.locators-of-all.result in
+    let xs : List ℕ = take (c.search-found.result.count - 0) c.locators_of-all.result in
     let values : List ℕ = c.loop-i.values in
     let found = c.loop-i.invariant.3.2 in
     record {
@@ -78,7 +78,7 @@ returns-then-explained c =
 
 pub returns-else-explained : goal.returns-else-explained
 returns-else-explained c e x =
-    let xs : List ℕ = take (c.search-found.result.count - 0) c.locators-of-all.result in
+    let xs : List ℕ = take (c.search-found.result.count - 0) c.locators_of-all.result in
     let found = c.loop-i.invariant.3.2 in
     let yes : c.explained.result ≡ true =
     c.explained.ensures.no

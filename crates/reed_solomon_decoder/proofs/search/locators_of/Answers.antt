@@ -11,9 +11,9 @@ loop-i-init c = (refl, refl)
 
 pub loop-i-preserved : goal.loop-i-preserved
 loop-i-preserved c = (
-  locators_more 528 c.loop-i.locators c.args.places.now c.loop-i.i c.alpha-power.result
-      (omega arith) (omega arith) c.alpha-power.ensures.value c.loop-i.invariant.0,
-  length-set c.loop-i.locators c.loop-i.i c.alpha-power.result ∙ c.loop-i.invariant.1,
+  locators_more 528 c.loop-i.locators c.args.places.now c.loop-i.i c.alpha_power.result
+      (omega arith) (omega arith) c.alpha_power.ensures.value c.loop-i.invariant.0,
+  length-set c.loop-i.locators c.loop-i.i c.alpha_power.result ∙ c.loop-i.invariant.1,
 )
 
 pub returns : goal.returns

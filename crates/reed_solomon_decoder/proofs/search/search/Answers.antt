@@ -7,24 +7,24 @@ use Rattle.reed_solomon_decoder.specs.Exponents.{Lowered, terms_sum}
 use Rattle.reed_solomon_decoder.proofs.Exponents.{lowered_next}
 use Rattle.reed_solomon_decoder.proofs.Searching.{sum_is, Turned, free, turned_yes, turned_no, found_all}
 use Rattle.reed_solomon_decoder.proofs.search.search.Goals as goal
-use Rattle.reed_solomon_decoder.proofs.search.search.Goals.{then-sum-of-terms-eq0, else-sum-of-terms-eq0}
+use Rattle.reed_solomon_decoder.proofs.search.search.Goals.{then-sum_of_terms-eq0, else-sum_of_terms-eq0}
 
 pub loop-s-init : goal.loop-s-init
 unfolding located
 loop-s-init c =
     (refl, lit≤ tt, refl, (λ i h. absurd (not-suc-le-zero h)), c.start-exponents.ensures.lowered, c.start-exponents.ensures.wide)
 
-free_here : (c : goal.Then-sum-of-terms-eq0) → c.loop-s.count < 7
+free_here : (c : goal.Then-sum_of_terms-eq0) → c.loop-s.count < 7
 free_here c =
     let u : List ℕ = c.args.u.now in
     let s : ℕ = c.loop-s.s in
     free 528 7 u c.loop-s.places c.loop-s.count s (lit≤ tt) c.loop-s-test.true c.requires.symbols c.told-u c.requires.nonzero
     c.loop-s.invariant.0 c.loop-s.invariant.1 c.loop-s.invariant.2 c.loop-s.invariant.3
     (sym (sum_is 528 u c.loop-s.exponents s c.loop-s-test.true c.requires.symbols (c.loop-s.invariant.5 ∙ sym c.told-u) c.loop-s.invariant.4)
-    ∙ sym c.sum-of-terms.ensures ∙ c.if-sum-of-terms-eq0.true)
+    ∙ sym c.sum_of_terms.ensures ∙ c.if-sum_of_terms-eq0.true)
 
-pub offset-bounds-places-count : goal.offset-bounds-places-count
-offset-bounds-places-count c = let h : c.loop-s.count < 7 = free_here c in search rules
+pub offset_bounds-places-count : goal.offset_bounds-places-count
+offset_bounds-places-count c = let h : c.loop-s.count < 7 = free_here c in search rules
 
 pub bounds-places-count : goal.bounds-places-count
 bounds-places-count c = free_here c
@@ -37,20 +37,20 @@ loop-s-preserved c =
     let s : ℕ = c.loop-s.s in
     let is : terms_sum c.loop-s.exponents ≡ value (pow 2 (527 - s)) u =
     sum_is 528 u c.loop-s.exponents s c.loop-s-test.true c.requires.symbols (c.loop-s.invariant.5 ∙ sym c.told-u) c.loop-s.invariant.4 in
-    let turned : Turned 528 7 u c.if-sum-of-terms-eq0.places c.if-sum-of-terms-eq0.count s =
-    elim c.if-sum-of-terms-eq0.branch [
-      | then-sum-of-terms-eq0 w ↦
-          subst (λ (n : ℕ). Turned 528 7 u c.if-sum-of-terms-eq0.places n s) (sym w.count-is)
+    let turned : Turned 528 7 u c.if-sum_of_terms-eq0.places c.if-sum_of_terms-eq0.count s =
+    elim c.if-sum_of_terms-eq0.branch [
+      | then-sum_of_terms-eq0 w ↦
+          subst (λ (n : ℕ). Turned 528 7 u c.if-sum_of_terms-eq0.places n s) (sym w.count-is)
           (subst (λ (l : List ℕ). Turned 528 7 u l (count + 1) s) (sym w.places-is)
           (turned_yes 528 7 u ps count s (lit≤ tt) c.loop-s-test.true c.requires.symbols c.told-u c.requires.nonzero
           c.loop-s.invariant.0 c.loop-s.invariant.1 c.loop-s.invariant.2 c.loop-s.invariant.3
-          (sym is ∙ sym c.sum-of-terms.ensures ∙ w.if-sum-of-terms-eq0.true)))
-      | else-sum-of-terms-eq0 w ↦
-          subst (λ (n : ℕ). Turned 528 7 u c.if-sum-of-terms-eq0.places n s) (sym w.count-is)
+          (sym is ∙ sym c.sum_of_terms.ensures ∙ w.if-sum_of_terms-eq0.true)))
+      | else-sum_of_terms-eq0 w ↦
+          subst (λ (n : ℕ). Turned 528 7 u c.if-sum_of_terms-eq0.places n s) (sym w.count-is)
           (subst (λ (l : List ℕ). Turned 528 7 u l count s) (sym w.places-is)
           (turned_no 528 7 u ps count s (lit≤ tt) c.loop-s-test.true c.requires.symbols c.told-u c.requires.nonzero
           c.loop-s.invariant.0 c.loop-s.invariant.1 c.loop-s.invariant.2 c.loop-s.invariant.3
-          (λ z. w.if-sum-of-terms-eq0.false (c.sum-of-terms.ensures ∙ is ∙ z))))
+          (λ z. w.if-sum_of_terms-eq0.false (c.sum_of_terms.ensures ∙ is ∙ z))))
     ] in
     let up : 528 - c.loop-s.s ≡ suc (527 - c.loop-s.s) = omega arith in
     let next : 527 - c.loop-s.s ≡ 528 - (c.loop-s.s + 1) = omega arith in (

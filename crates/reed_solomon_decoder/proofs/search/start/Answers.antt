@@ -10,10 +10,10 @@ loop-k-preserved c =
     let now : List ℕ = c.loop-k.exponents in
     let u : List ℕ = c.args.u.now in
     let k : ℕ = c.loop-k.k in
-    let v : ℕ = c.exponent-of.result in (
+    let v : ℕ = c.exponent_of.result in (
       below_more (λ (i : ℕ). term_of (get_or (set now k v) i 0) ≡ mul (get_or u i 0) (pow 2 (527 * i))) k
           (λ i h. let ne : i ≢ k = omega arith in ap term_of (get_or-set_other now k i v 0 ne) ∙ c.loop-k.invariant.0 i h)
-          (ap term_of (get_or-set_same now k v 0 (omega arith)) ∙ c.exponent-of.ensures),
+          (ap term_of (get_or-set_same now k v 0 (omega arith)) ∙ c.exponent_of.ensures),
       length-set now k v ∙ c.loop-k.invariant.1,
     )
 

@@ -15,10 +15,10 @@ loop-k-init c =
 pub loop-k-preserved : goal.loop-k-preserved
 loop-k-preserved c =
     let k = c.loop-k.k in
-    let cell = c.in-ok-bit.ensures in
-    let small : c.in-ok-bit.bit < 2 = cell.0 in
+    let cell = c.in_ok-bit.ensures in
+    let small : c.in_ok-bit.bit < 2 = cell.0 in
     let inv = c.loop-k.invariant.0 in
     let p = pow-suc 2 k in (
       rw add-one (omega arith),
-      carried_more (bits_of c.args.recording.now) c.args.place k c.loop-k.field c.in-ok-bit.bit (omega arith) small c.loop-k.invariant.1 cell.1,
+      carried_more (bits_of c.args.recording.now) c.args.place k c.loop-k.field c.in_ok-bit.bit (omega arith) small c.loop-k.invariant.1 cell.1,
     )

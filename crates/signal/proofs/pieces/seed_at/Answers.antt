@@ -17,11 +17,11 @@ loop-i-preserved c =
     let long = length_bits c.args.recording.now in
     let p = c.args.place in
     let i = c.loop-i.i in
-    let x = c.loop-i.seed * 2 + c.tui-at.result in
+    let x = c.loop-i.seed * 2 + c.tui_at.result in
     let n : 11 - (i - 1) ≡ suc (11 - i) = omega arith in
     let at : p + i ≡ p + (i - 1) + 1 = omega arith in
     let double = pow-suc 2 (11 - i) in
     let inv = c.loop-i.invariant.0 in
-    let more = least_more bits (11 - i) c.loop-i.seed c.tui-at.result (p + (i - 1)) c.tui-at.ensures.bit
-    (subst (Stands (least_first (11 - i) c.loop-i.seed) bits) at c.loop-i.invariant.1) (sym c.tui-at.ensures.level) (omega arith) in
+    let more = least_more bits (11 - i) c.loop-i.seed c.tui_at.result (p + (i - 1)) c.tui_at.ensures.bit
+    (subst (Stands (least_first (11 - i) c.loop-i.seed) bits) at c.loop-i.invariant.1) (sym c.tui_at.ensures.level) (omega arith) in
     (rw n (omega arith), subst (λ (k : ℕ). Stands (least_first k x) bits (p + (i - 1))) (sym n) more)

@@ -5,9 +5,9 @@ use Rattle.signal.proofs.Bits.{length_bits}
 use Rattle.signal.proofs.Standing.{level_stands, stands_level}
 use Rattle.signal.proofs.pieces.stays.Goals as goal
 
-pub returns-then-tui-at-level : goal.returns-then-tui-at-level
-returns-then-tui-at-level c = λ s.
-    c.if-tui-at-level.true (c.tui-at.ensures.level ∙ stands_level (bits_of c.args.recording.now) c.args.count c.args.level c.args.place c.loop-i.i s (omega arith))
+pub returns-then-tui_at-level : goal.returns-then-tui_at-level
+returns-then-tui_at-level c = λ s.
+    c.if-tui_at-level.true (c.tui_at.ensures.level ∙ stands_level (bits_of c.args.recording.now) c.args.count c.args.level c.args.place c.loop-i.i s (omega arith))
 
 pub returns : goal.returns
 returns c =

@@ -5,8 +5,8 @@ use Rattle.signal.proofs.reading.read.Goals as goal
 pub returns : goal.returns
 returns c =
     let recording = c.args.recording.now in
-    let r = c.read-checked.result in
-    let h = c.read-checked.ensures in
+    let r = c.read_checked.result in
+    let h = c.read_checked.ensures in
     record {
       answer = h;
       only = λ other o. once recording c.args.start r other h o;

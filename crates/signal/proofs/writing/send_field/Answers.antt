@@ -14,8 +14,8 @@ loop-k-init c = sent_none (bits_of c.args.line.now) c.args.at
 pub loop-k-preserved : goal.loop-k-preserved
 loop-k-preserved c =
     let room : c.args.at ≤ length (bits_of c.args.line.now) = omega (arith, length_bits c.args.line.now) in
-    sent_cell (bits_of c.loop-k.line) (bits_of c.send-cell.new.line) (bits_of c.args.line.now) c.args.at c.loop-k.k c.args.field _
-    (omega arith) room (omega arith) c.loop-k.invariant c.send-cell.ensures (and_mask (c.args.field / 2 ^ (15 - c.loop-k.k)) 1)
+    sent_cell (bits_of c.loop-k.line) (bits_of c.send_cell.new.line) (bits_of c.args.line.now) c.args.at c.loop-k.k c.args.field _
+    (omega arith) room (omega arith) c.loop-k.invariant c.send_cell.ensures (and_mask (c.args.field / 2 ^ (15 - c.loop-k.k)) 1)
 
 pub returns : goal.returns
 returns c =

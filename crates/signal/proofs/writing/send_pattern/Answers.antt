@@ -25,9 +25,9 @@ loop-k-preserved c =
       | else-k-lt11 w ↦
           let nine : at + k - 9 ≡ at + (k - 9) = omega arith in
           let eleven : at + k - 11 ≡ at + (k - 11) = omega arith in
-          let a = w.tui-at.ensures.level ∙ ap (λ (j : ℕ). get_or was j 0) nine ∙ sent_at entry was (pattern c.args.seed k) at k (k - 9) room c.loop-k.invariant (omega arith) in
-          let b = w.tui-at-else-k-lt11.ensures.level ∙ ap (λ (j : ℕ). get_or was j 0) eleven ∙ sent_at entry was (pattern c.args.seed k) at k (k - 11) room c.loop-k.invariant (omega arith) in
-          w.bit-is ∙ w.turn-bit.ensures.level ∙ ap (λ (y : ℕ). (y + w.tui-at-else-k-lt11.result) % 2) a
+          let a = w.tui_at.ensures.level ∙ ap (λ (j : ℕ). get_or was j 0) nine ∙ sent_at entry was (pattern c.args.seed k) at k (k - 9) room c.loop-k.invariant (omega arith) in
+          let b = w.tui_at-else-k-lt11.ensures.level ∙ ap (λ (j : ℕ). get_or was j 0) eleven ∙ sent_at entry was (pattern c.args.seed k) at k (k - 11) room c.loop-k.invariant (omega arith) in
+          w.bit-is ∙ w.turn-bit.ensures.level ∙ ap (λ (y : ℕ). (y + w.tui_at-else-k-lt11.result) % 2) a
           ∙ ap (λ (y : ℕ). (get_or (pattern c.args.seed k) (k - 9) 0 + y) % 2) b ∙ sym (next_later c.args.seed k (pattern c.args.seed k) (omega arith))
     ] in
     sent_bit was (bits_of c.send.new.line) entry at k c.args.seed c.if-k-lt11.bit c.loop-k.invariant c.send.ensures next

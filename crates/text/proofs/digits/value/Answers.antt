@@ -5,14 +5,14 @@ use Rattle.text.specs.Text.{hex_digit, value}
 use Rattle.text.proofs.Numbers.{digit_lt, value_room, value_more}
 use Rattle.text.proofs.digits.value.Goals as goal
 
-pub overflow-mul-value : goal.overflow-mul-value
-overflow-mul-value c = let h = value_room c.loop-byte.value c.loop-byte.byte-index c.loop-byte.invariant.0 (omega arith) in omega arith
+pub overflow_mul-value : goal.overflow_mul-value
+overflow_mul-value c = let h = value_room c.loop-byte.value c.loop-byte.byte-index c.loop-byte.invariant.0 (omega arith) in omega arith
 
-pub overflow-add-value : goal.overflow-add-value
-overflow-add-value c =
+pub overflow_add-value : goal.overflow_add-value
+overflow_add-value c =
     let h = value_room c.loop-byte.value c.loop-byte.byte-index c.loop-byte.invariant.0 (omega arith) in
     let d = digit_lt (get_or c.args.digits.now c.loop-byte.byte-index 0) in
-    let e : c.unwrap-or.result ≡ unwrap_or (hex_digit (get_or c.args.digits.now c.loop-byte.byte-index 0)) 0 = cc in
+    let e : c.unwrap_or.result ≡ unwrap_or (hex_digit (get_or c.args.digits.now c.loop-byte.byte-index 0)) 0 = cc in
     omega arith
 
 pub loop-byte-preserved : goal.loop-byte-preserved
@@ -20,7 +20,7 @@ loop-byte-preserved c =
     let lt : c.loop-byte.byte-index < length c.args.digits.now = omega arith in
     let f = fold_more (λ v b. v * 16 + unwrap_or (hex_digit b) 0) 0 c.args.digits.now c.loop-byte.byte-index 0 lt in
     let d = digit_lt (get_or c.args.digits.now c.loop-byte.byte-index 0) in
-    let e : c.unwrap-or.result ≡ unwrap_or (hex_digit (get_or c.args.digits.now c.loop-byte.byte-index 0)) 0 = cc in
+    let e : c.unwrap_or.result ≡ unwrap_or (hex_digit (get_or c.args.digits.now c.loop-byte.byte-index 0)) 0 = cc in
     (value_more _ _ _ c.loop-byte.invariant.0 (omega arith), cc)
 
 pub returns : goal.returns

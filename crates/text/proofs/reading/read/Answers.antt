@@ -8,36 +8,36 @@ use Rattle.text.specs.Reading.{before}
 use Rattle.text.proofs.Steps.{named, row_read, row_refused, row_missing, rows_done, rows_beyond}
 use Rattle.text.proofs.reading.read.Goals as goal
 
-pub returns-then-is-empty : goal.returns-then-is-empty
-returns-then-is-empty c =
-    let e = c.if-is-empty.ensures in
+pub returns-then-is_empty : goal.returns-then-is_empty
+returns-then-is_empty c =
+    let e = c.if-is_empty.ensures in
     row_missing c.loop-row.row c.loop-row.words c.loop-row.rest.now _ c.loop-row.invariant.1 c.loop-row-test.true (grind (arith, nat_tests))
-    ∙ named c.args.text.now c.behind-rest.result.now (sym c.names-fault.ensures ∙ c.in-default.is) c.behind-rest.ensures
+    ∙ named c.args.text.now c.behind-rest.result.now (sym c.names_fault.ensures ∙ c.in_default.is) c.behind-rest.ensures
 
-pub returns-in-err-words : goal.returns-in-err-words
-returns-in-err-words c =
-    let e = c.if-is-empty.ensures in
-    let p = err_from_is_err_and c.from-residual.result c.from-residual.ensures.1 in
+pub returns-in_err-words : goal.returns-in_err-words
+returns-in_err-words c =
+    let e = c.if-is_empty.ensures in
+    let p = err_from_is_err_and c.from_residual.result c.from_residual.ensures.1 in
     rw (p.1, p.2)
-    (row_refused c.loop-row.row c.loop-row.words c.loop-row.rest.now _ c.loop-row.invariant.1 c.in-err-words.field-0.0 c.loop-row-test.true (grind (arith, nat_tests)) c.in-err-words.ensures
-    ∙ named c.args.text.now c.behind-rest.result.now (sym c.names-fault.ensures ∙ c.in-default.is) c.behind-rest.ensures)
+    (row_refused c.loop-row.row c.loop-row.words c.loop-row.rest.now _ c.loop-row.invariant.1 c.in_err-words.field-0.0 c.loop-row-test.true (grind (arith, nat_tests)) c.in_err-words.ensures
+    ∙ named c.args.text.now c.behind-rest.result.now (sym c.names_fault.ensures ∙ c.in_default.is) c.behind-rest.ensures)
 
 pub loop-row-preserved : goal.loop-row-preserved
 loop-row-preserved c =
-    let e = c.if-is-empty.ensures in (
+    let e = c.if-is_empty.ensures in (
       length-set _ _ _ ∙ c.loop-row.invariant.0,
-      ap (λ bs. before (raws (take (c.loop-row.row + 1) (set c.loop-row.words c.loop-row.row c.in-ok-words.field-0))) (rows (c.loop-row.row + 1) (80 - (c.loop-row.row + 1)) bs)) c.behind-rest-in-loop-row.ensures
-          ∙ row_read c.loop-row.row c.loop-row.words c.loop-row.rest.now _ c.loop-row.invariant.1 c.in-ok-words.field-0 c.loop-row-test.true c.loop-row.invariant.0 (grind (arith, nat_tests)) c.in-ok-words.ensures,
+      ap (λ bs. before (raws (take (c.loop-row.row + 1) (set c.loop-row.words c.loop-row.row c.in_ok-words.field-0))) (rows (c.loop-row.row + 1) (80 - (c.loop-row.row + 1)) bs)) c.behind-rest-in-loop-row.ensures
+          ∙ row_read c.loop-row.row c.loop-row.words c.loop-row.rest.now _ c.loop-row.invariant.1 c.in_ok-words.field-0 c.loop-row-test.true c.loop-row.invariant.0 (grind (arith, nat_tests)) c.in_ok-words.ensures,
     )
 
-pub returns-then-is-empty-2 : goal.returns-then-is-empty-2
-returns-then-is-empty-2 c =
-    let e = c.if-is-empty-2.ensures in
+pub returns-then-is_empty-2 : goal.returns-then-is_empty-2
+returns-then-is_empty-2 c =
+    let e = c.if-is_empty-2.ensures in
     rows_done c.loop-row.row c.loop-row.words c.loop-row.rest.now _ c.loop-row.invariant.1 c.loop-row-test.false c.loop-row.invariant.0 (grind (arith, nat_tests))
-    ∙ named c.args.text.now c.behind-rest.result.now (sym c.names-fault.ensures ∙ c.in-default.is) c.behind-rest.ensures
+    ∙ named c.args.text.now c.behind-rest.result.now (sym c.names_fault.ensures ∙ c.in_default.is) c.behind-rest.ensures
 
-pub returns-else-is-empty-2 : goal.returns-else-is-empty-2
-returns-else-is-empty-2 c =
-    let e = c.if-is-empty-2.ensures in
+pub returns-else-is_empty-2 : goal.returns-else-is_empty-2
+returns-else-is_empty-2 c =
+    let e = c.if-is_empty-2.ensures in
     rows_beyond c.loop-row.row c.loop-row.words c.loop-row.rest.now _ c.loop-row.invariant.1 c.loop-row-test.false (omega arith) (grind (arith, nat_tests))
-    ∙ named c.args.text.now c.behind-rest.result.now (sym c.names-fault.ensures ∙ c.in-default.is) c.behind-rest.ensures
+    ∙ named c.args.text.now c.behind-rest.result.now (sym c.names_fault.ensures ∙ c.in_default.is) c.behind-rest.ensures

@@ -15,8 +15,8 @@ returns-in-len1-up c =
     let e = ap (fault (c.args.at + 1) (just c.args.mark ∷ [])) c.behind.ensures in
     grind (arith, nat_tests)
 
-pub returns-in-default : goal.returns-in-default
-returns-in-default c =
+pub returns-in_default : goal.returns-in_default
+returns-in_default c =
     let f = fault_one (c.args.at + 1) (just c.args.mark) c.behind.result.now (grind (arith, nat_tests)) in
     let e = ap (fault (c.args.at + 1) (just c.args.mark ∷ [])) c.behind.ensures in
     grind (arith, nat_tests)

@@ -10,8 +10,8 @@ returns-in-empty c = sym (fault_none _ _ [] c.args.bytes.now (grind (arith, nat_
 pub returns-in-d : goal.returns-in-d
 returns-in-d c = let f = fault_one c.args.column letter c.args.bytes.now (grind (arith, nat_tests)) in grind (arith, nat_tests)
 
-pub returns-in-default : goal.returns-in-default
-returns-in-default c = let f = fault_one c.args.column letter c.args.bytes.now (grind (arith, nat_tests)) in grind (arith, nat_tests)
+pub returns-in_default : goal.returns-in_default
+returns-in_default c = let f = fault_one c.args.column letter c.args.bytes.now (grind (arith, nat_tests)) in grind (arith, nat_tests)
 
-pub returns-in-default·2 : goal.returns-in-default·2
-returns-in-default·2 c = let f = fault_one c.args.column letter c.args.bytes.now (grind (arith, nat_tests)) in grind (arith, nat_tests)
+pub returns-in_default·2 : goal.returns-in_default·2
+returns-in_default·2 c = let f = fault_one c.args.column letter c.args.bytes.now (grind (arith, nat_tests)) in grind (arith, nat_tests)

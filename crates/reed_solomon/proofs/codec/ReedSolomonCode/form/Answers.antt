@@ -11,5 +11,5 @@ returns c =
     let message : Message m = search rules in
     record {
       formed = search rules;
-      word = subst (WordOf 7 m) (sym c.write-word.ensures) (word_of 7 (lit≤ tt) m message);
+      word = subst (WordOf 7 m) (sym c.write_word.ensures) (word_of 7 (lit≤ tt) m message);
     }
