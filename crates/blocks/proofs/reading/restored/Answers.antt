@@ -13,4 +13,4 @@ pub overflow_add-body-2 : goal.overflow_add-body-2
 overflow_add-body-2 c = let s = high_small (c.args.kept % 16) (omega arith) in omega (arith, told c.args.kept c.high_nibble.result c.high_nibble.ensures)
 
 pub invariant_of-result : goal.invariant_of-result
-invariant_of-result c = (typed c.args.kept c.high_nibble.result (told c.args.kept c.high_nibble.result c.high_nibble.ensures) (omega arith), tt)
+invariant_of-result c = record { typed = typed c.args.kept c.high_nibble.result (told c.args.kept c.high_nibble.result c.high_nibble.ensures) (omega arith) }

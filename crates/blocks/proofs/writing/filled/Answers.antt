@@ -50,7 +50,7 @@ done ws limbs j acc cut j4 n n5 e v =
 
 pub invariant_of-result : goal.invariant_of-result
 invariant_of-result c =
-    ((done c.args.words.now c.loop-j.limbs c.loop-j.j c.loop-j.acc c.loop-j.cutting (omega arith) (omega arith) c.loop-j.invariant.0 c.loop-j.invariant.2 c.loop-j.invariant.3).narrow, tt)
+    record { narrow = (done c.args.words.now c.loop-j.limbs c.loop-j.j c.loop-j.acc c.loop-j.cutting (omega arith) (omega arith) c.loop-j.invariant.0 c.loop-j.invariant.2 c.loop-j.invariant.3).narrow }
 
 pub returns : goal.returns
 returns c =
