@@ -8,16 +8,16 @@ use Rattle.recording.proofs.Counting.{good_read, bad_read, good_fits, adds_good,
 use Rattle.recording.proofs.surveying.count.Goals as goal
 use Rattle.recording.proofs.surveying.count.Goals.{Then-is_ok, Else-is_ok}
 
-good_there : (c : Then-is-ok) → Good (bits_of c.args.recording.now) c.in-Ok.start
+good_there : (c : Then-is_ok) → Good (bits_of c.args.recording.now) c.in-Ok.start
 good_there c = good_read c.args.recording.now c.in-Ok.start c.read.result c.read.ensures.answer (sym c.is_ok.ensures.value ∙ c.if-is_ok.true)
 
-good_room : (c : Then-is-ok) → c.in-Ok.start + 4384 ≤ 8 * length c.args.recording.now
+good_room : (c : Then-is_ok) → c.in-Ok.start + 4384 ≤ 8 * length c.args.recording.now
 good_room c = omega (arith, good_fits (bits_of c.args.recording.now) c.in-Ok.start (good_there c), length_bits c.args.recording.now)
 
-bad_there : (c : Else-is-ok) → Good (bits_of c.args.recording.now) c.in-Ok.start → ⊥
+bad_there : (c : Else-is_ok) → Good (bits_of c.args.recording.now) c.in-Ok.start → ⊥
 bad_there c = bad_read c.args.recording.now c.in-Ok.start c.read.result (omega arith) c.read.ensures.only (sym c.is_ok.ensures.value ∙ c.if-is_ok.false)
 
-bad_room : (c : Else-is-ok) → c.in-Ok.start + 32 ≤ 8 * length c.args.recording.now
+bad_room : (c : Else-is_ok) → c.in-Ok.start + 32 ≤ 8 * length c.args.recording.now
 bad_room c = omega (arith, marker_fits (bits_of c.args.recording.now) c.in-Ok.start c.in-Ok.ensures.1.marked, length_bits c.args.recording.now)
 
 pub overflow_add-place : goal.overflow_add-place

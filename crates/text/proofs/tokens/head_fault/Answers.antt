@@ -13,5 +13,5 @@ returns-in-d c = let f = fault_one c.args.column letter c.args.bytes.now (grind 
 pub returns-in_default : goal.returns-in_default
 returns-in_default c = let f = fault_one c.args.column letter c.args.bytes.now (grind (arith, nat_tests)) in grind (arith, nat_tests)
 
-pub returns-in_default·2 : goal.returns-in_default·2
-returns-in_default·2 c = let f = fault_one c.args.column letter c.args.bytes.now (grind (arith, nat_tests)) in grind (arith, nat_tests)
+pub returns-in_default-2 : goal.returns-in_default-2
+returns-in_default-2 c = let f = fault_one c.args.column letter c.args.bytes.now (grind (arith, nat_tests)) in grind (arith, nat_tests)
