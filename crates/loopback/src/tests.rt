@@ -2,6 +2,7 @@
 use crate::answer::printed;
 use crate::running::run;
 use code::bare::Bare;
+use std::process::Abort;
 use std::test::*;
 use text::reading::words_of;
 
@@ -9,7 +10,7 @@ const NAMES: &str = "head body\n";
 
 // The answer to some bytes behind so many right rows, with so many right rows behind them.
 fn answers(
-    rt: &HostRuntime,
+    rt: &(impl AllocGlobal + Abort),
     names: &str,
     before: usize,
     bytes: &[u8],
@@ -27,17 +28,17 @@ fn answers(
         text.extend_from_slice(row)?;
     }
     let said = printed(rt.alloc(), &run(Bare, text.as_slice()))?;
-    assert!(said.as_str() == expected, "{}", said);
+    assert!(rt; said.as_str() == expected, "{said}");
     Ok(())
 }
 
-fn names_refused(rt: &HostRuntime, names: &str, column: &str) -> Result<(), Fail> {
+fn names_refused(rt: &(impl AllocGlobal + Abort), names: &str, column: &str) -> Result<(), Fail> {
     let expected = format!(in rt.alloc(); "refusal row column\n61 0 {column}\n")?;
     answers(rt, names, 80, b"", 0, expected.as_str())
 }
 
 fn refused(
-    rt: &HostRuntime,
+    rt: &(impl AllocGlobal + Abort),
     before: usize,
     bytes: &[u8],
     after: usize,
@@ -66,7 +67,12 @@ fn wrong_names(rt: HostRuntime) -> Result<(), Fail> {
 }
 
 // Each faulty row in the first, a middle and the last place.
-fn row_refused(rt: &HostRuntime, row: &[u8], number: u8, column: usize) -> Result<(), Fail> {
+fn row_refused(
+    rt: &(impl AllocGlobal + Abort),
+    row: &[u8],
+    number: u8,
+    column: usize,
+) -> Result<(), Fail> {
     for before in [0usize, 40, 79] {
         let due = before + 1;
         let values = format!(in rt.alloc(); "{number} {due} {column}")?;

@@ -6,4 +6,4 @@ use Rattle.client.proofs.session.Given as goal
 
 abbrev pub invariant-loop-i : goal.invariant-loop-i
 invariant-loop-i g l =
-    (hs : List Event) × (length hs ≡ l.-i) × (l.port.code ≡ l.initial.port.code) × Leads (g.C.Code.model l.initial.port.code) l.initial.port.totals l.port.totals hs
+    (hs : List Event) × (length hs ≡ l._i) × (l.port.code ≡ l.initial.port.code) × Leads (g.C.Code.model l.initial.port.code) l.initial.port.totals l.port.totals hs
