@@ -31,7 +31,6 @@ if sys.argv[1] == "code":
     print(code("Entry a is the exponent below 1,023 whose power of α is a; that of 0 is not used.", "LOGS", logs))
 else:
     print("-- The tables of the code as lists, as tools/field_tables.py prints them.")
-    print("use mathlib.Core.List.{List, [], _∷_}")
-    print("use Prim.Native.Nat.{ℕ}")
+    print("use Rattle.std.proofs.Common.{ℕ, List, [], ◌∷◌}")
     print(listed("powers", powers))
     print(listed("logs", logs))

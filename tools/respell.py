@@ -6,8 +6,7 @@ usage: python3 tools/respell.py [FOLDER]     once, at the top of the repository
 Words are in snake case (`data-word` is `data_word`, `readBlock` is `read_block`), types and relations
 in camel case (`Block-of` is `BlockOf`). Names of the library, goals and the steps of a proof keep
 theirs, and so do functions, strings and comments of src/. What falls together is printed and nothing
-is written. The crate `refusal`, whose name six modules have too, becomes `numbered_refusal`, and the
-root of each crate gets the line that lets the check try its tactics.
+is written. The crate `refusal`, whose name six modules have too, becomes `numbered_refusal`.
 """
 import os
 import re
@@ -130,15 +129,6 @@ def write(path, text):
         file.write(text)
 
 
-def let_tactics_try(path):
-    lines = read(path).split("\n")
-    if "#![tactic(auto)]" in lines:
-        return
-    at = next(i for i, line in enumerate(lines) if not line.startswith("//"))
-    lines[at:at] = ["#![tactic(auto)]"] + ([""] if lines[at].strip() else [])
-    write(path, "\n".join(lines))
-
-
 def main(top):
     names = own_names(top)
     wrong, out = [], {}
@@ -159,8 +149,6 @@ def main(top):
     for path, text in out.items():
         write(path, text)
     rename_crate(top, "refusal", "numbered_refusal")
-    for path in files(top, ("src/lib.rt", "src/main.rt")):
-        let_tactics_try(path)
     print(f"{len(names)} names, {len(out)} files")
     return 0
 

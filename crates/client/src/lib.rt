@@ -1,4 +1,6 @@
 // A client of the port over any code: it uses the calls by their contracts and the promise alone.
+#![tactic(auto)]
+
 ghost use Rattle.std.specs.Prelude.{◌≡◌, ◌+◌, MatchResult};
 ghost use Rattle.code.specs.Layers.{scrambled};
 ghost use Rattle.reed_solomon_algebra.specs.Division.{reed_solomon_code};

@@ -1,4 +1,6 @@
 // What a code is: the interface that every code stands behind, the bare code, and two layers over any code.
+#![tactic(auto)]
+
 pub mod bare;
 pub mod correction_off;
 pub mod distance;

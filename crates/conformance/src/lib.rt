@@ -1,4 +1,6 @@
 // Examples and tables of cases for all layers, in a crate of their own so that the layers are not proved twice.
+#![tactic(auto)]
+
 #[cfg(test)]
 mod blocks_and_words;
 #[cfg(test)]

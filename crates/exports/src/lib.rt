@@ -1,5 +1,7 @@
 // Calls for programs in C and Rust that link the core: comparisons with other codecs, and measurements.
 // Each answers a refusal as 1,000 plus its number.
+#![tactic(auto)]
+
 ghost use Rattle.std.specs.Prelude.{◌≡◌};
 ghost use Rattle.exports.specs.Answers.{number_of_form, number_of_mend, number_of_port, zeros, FormAnswer, MendAnswer, DataWords, WriteAnswer, BodiesOf, ReadAnswer};
 

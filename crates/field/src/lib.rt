@@ -1,4 +1,6 @@
 // Arithmetic of GF(2^10), the field of the code's symbols; addition is `^`.
+#![tactic(auto)]
+
 ghost use Rattle.std.specs.Prelude.{◌≡◌, ℕ, ◌%◌, ◌<◌, MatchOption};
 ghost use Rattle.field.specs.Field.{mul, pow, inv, α};
 ghost use Rattle.field.specs.Laws.{RingLaws, InverseLaws, AlphaLaws, ExponentOf};

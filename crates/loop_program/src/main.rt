@@ -1,4 +1,6 @@
 // Reads a text of eighty words, carries the words over scrambled RS(528,514) with seven symbols damaged, and prints the answer.
+#![tactic(auto)]
+
 ghost use Rattle.std.specs.Prelude.{◌≤◌, length, IfOk};
 
 use code::scrambled::Scrambled;

@@ -1,4 +1,6 @@
 // What every refusal says of itself: a number, the layer that refuses and a place.
+#![tactic(auto)]
+
 ghost use Rattle.std.specs.Prelude.{◌≡◌, ℕ};
 ghost use Rattle.numbered_refusal.specs.Layers.{layer as layer_of};
 

@@ -1,4 +1,6 @@
 // RS(528,514), the code that mends 7 symbols, behind the interface of codes.
+#![tactic(auto)]
+
 pub mod codec;
 mod correction;
 mod division;

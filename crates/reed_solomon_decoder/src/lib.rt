@@ -1,4 +1,6 @@
 // Which errors have the syndromes of a line of RS(528,514): at most 7, or none do.
+#![tactic(auto)]
+
 mod elimination;
 pub mod errors;
 mod evaluation;

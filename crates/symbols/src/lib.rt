@@ -1,4 +1,6 @@
 // Symbols of ten bits, and the search for a number that is none.
+#![tactic(auto)]
+
 ghost use Rattle.std.specs.Option.{MatchOption};
 ghost use Rattle.symbols.specs.Symbols.{Symbols, FirstAbove};
 

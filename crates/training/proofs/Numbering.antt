@@ -1,5 +1,5 @@
 -- The numbers of records and of their parts: each part is found in the number, and no two records share one.
-use Rattle.std.proofs.Common.{◌≡◌, ℕ, zero, suc, ◌+◌, ◌-◌, ◌*◌, ◌/◌, ◌%◌, ◌^◌, ◌<◌, ◌≤◌, Bool, true, false, eqb, Ok, Err, Result, sym, refl, ap, ◌∙◌, arith, eq-eqb, ne_eqb, MatchOption, MatchResult}
+use Rattle.std.proofs.Common.{◌≡◌, ℕ, zero, suc, ◌+◌, ◌*◌, ◌/◌, ◌%◌, ◌<◌, Bool, true, false, eqb, Ok, Err, Result, sym, refl, ap, ◌∙◌, arith, MatchOption, MatchResult}
 use Rattle.training.specs.declared.records.Mark.{Mark}
 use Rattle.training.specs.declared.records.Mark.TheVariants.{Gfc16, Gfc32}
 use Rattle.training.specs.declared.records.Update.{Update}

@@ -1,5 +1,5 @@
 -- No two records have the same number.
-use Rattle.std.proofs.Common.{◌≡◌, ℕ, zero, suc, ◌<◌, Bool, true, false, cond, eqb, sym, refl, ap, ◌∙◌, arith}
+use Rattle.std.proofs.Common.{◌≡◌, ℕ, Bool, true, false, cond, eqb, sym, refl, ap, ◌∙◌}
 use Rattle.training.specs.declared.records.Mark.{Mark}
 use Rattle.training.specs.declared.records.Mark.TheVariants.{Gfc16, Gfc32}
 use Rattle.training.specs.declared.records.Update.{Update}

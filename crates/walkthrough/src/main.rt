@@ -1,5 +1,6 @@
 // A walk through the core, each action printed: words to a block and back, to a message and back, through layers of a
 // code, over ports that count, and training signals in a recording.
+#![tactic(auto)]
 
 mod group;
 mod layers;

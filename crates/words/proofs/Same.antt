@@ -1,10 +1,9 @@
 -- A word is its header and its body.
-use Rattle.std.proofs.Common.{◌≡◌, ℕ, ◌%◌, Bool, true, false, List, [], ◌∷◌, sym, refl, ap, ◌∙◌, ap₂, arith}
+use Rattle.std.proofs.Common.{◌≡◌, ℕ, ◌%◌, true, List, [], ◌∷◌, refl, ap, arith}
 use mathlib.Core.HLevel.{is_prop→PathP}
 use base.Stored.{coded_bool}
 use denote.Struct.Props.{≡_prop}
 use Rattle.words.specs.Types.{listed}
-use Rattle.words.specs.Raw.{Raw, data_word, control_word}
 use Rattle.words.specs.Words.{raw, raws}
 use Rattle.words.specs.declared.word.Word.{Word}
 use Rattle.words.specs.declared.word.Word.TheVariants.{Data, Control}

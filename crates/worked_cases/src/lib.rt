@@ -1,4 +1,6 @@
 // The worked cases of the formats, proved from the definitions that the contracts of the calls use.
+#![tactic(auto)]
+
 ghost use Rattle.std.specs.Prelude.{◌≡◌, length};
 ghost use Rattle.worked_cases.specs.Cases.{cases, AllHold};
 
