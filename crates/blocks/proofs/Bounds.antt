@@ -1,8 +1,8 @@
 -- How many bits the words of a group fill.
-use Rattle.std.proofs.Common.{◌≡◌, ℕ, zero, suc, ◌+◌, ◌*◌, ◌/◌, ◌%◌, ◌^◌, ◌<◌, ◌≤◌, Bool, true, false, cond, eqb, List, [], ◌∷◌, length, sym, refl, ap, ◌∙◌, inl, inr, pow-suc, arith}
-use Rattle.std.proofs.lemmas.Bool.{cases_Bool, eqb-true, eqb-false}
-use Rattle.words.specs.Raw.{Raw, data_word, control_word, Valid, AllValid}
-use Rattle.blocks.specs.Numbers.{marks, whole, cut, kept, block}
+use Rattle.std.proofs.Common.{◌≡◌, ℕ, zero, suc, ◌+◌, ◌*◌, ◌^◌, ◌<◌, eqb, List, [], ◌∷◌, length, inl, inr, pow-suc, arith}
+use Rattle.std.proofs.lemmas.Bool.{cases_Bool, eqb-false}
+use Rattle.words.specs.Raw.{Raw, data_word, control_word, AllValid}
+use Rattle.blocks.specs.Numbers.{marks, whole, cut, block}
 use Rattle.blocks.proofs.Laws.{marks_lt}
 
 whole_lt : (ws : List Raw) → AllValid ws → whole ws < (2 ^ 64) ^ length ws

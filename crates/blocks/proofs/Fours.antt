@@ -1,12 +1,11 @@
 -- The four words of a group and the five limbs of a block, one by one.
-use Rattle.std.proofs.Common.{◌≡◌, ℕ, ◌+◌, ◌*◌, ◌^◌, ◌<◌, List, [], ◌∷◌, length, get_or, sym, refl, ap, ◌∙◌, arith}
+use Rattle.std.proofs.Common.{◌≡◌, ℕ, ◌+◌, ◌*◌, ◌<◌, List, [], ◌∷◌, length, get_or, refl, ◌∙◌, arith}
 use Rattle.words.specs.Raw.{mark}
 use Rattle.blocks.specs.Numbers.{marks}
 use Rattle.words.specs.Words.{raw, raws}
 use Rattle.std.proofs.lemmas.List.{length-map}
 use Rattle.blocks.proofs.Laws.{marks_lt}
 use Rattle.words.specs.declared.word.Word.{Word}
-use Rattle.words.specs.declared.word.Word.TheVariants.{Data, Control}
 
 pub marks_of : (ws : List Word) (a b c d : Word) → length ws ≡ 4
     → marks (raws ws) ≡ mark (raw (get_or ws 0 a)) + 2 * mark (raw (get_or ws 1 b)) + 4 * mark (raw (get_or ws 2 c)) + 8 * mark (raw (get_or ws 3 d))

@@ -1,8 +1,8 @@
 -- The two laws of a block.
-use Rattle.std.proofs.Common.{◌≡◌, ℕ, zero, suc, ◌+◌, ◌*◌, ◌/◌, ◌%◌, ◌^◌, ◌<◌, ◌≤◌, Bool, true, false, cond, eqb, List, [], ◌∷◌, length, sym, refl, ap, ◌∙◌, inl, inr, pow-suc, arith}
-use Rattle.std.proofs.lemmas.Bool.{cases_Bool, cases_eq, eqb-true, eqb-false, eq-eqb, ne_eqb}
+use Rattle.std.proofs.Common.{◌≡◌, ℕ, zero, suc, ◌+◌, ◌*◌, ◌/◌, ◌%◌, ◌^◌, ◌<◌, false, eqb, List, [], ◌∷◌, length, sym, refl, ap, ◌∙◌, inl, inr, pow-suc, arith}
+use Rattle.std.proofs.lemmas.Bool.{cases_Bool, eqb-true, eqb-false, ne_eqb}
 use Rattle.words.specs.Types.{listed}
-use Rattle.words.specs.Raw.{Raw, data_word, control_word, Valid, AllValid}
+use Rattle.words.specs.Raw.{Raw, data_word, control_word, AllValid}
 use Rattle.blocks.specs.Numbers.{marks, whole, cut, kept, block, restored}
 use Rattle.blocks.specs.Reading.{Reading, gives, refuses, before, read_whole, read_cut, read_block}
 use Rattle.blocks.proofs.Nibbles.{kept_restored, restored_kept, restored_valid}

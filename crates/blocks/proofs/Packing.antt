@@ -1,9 +1,9 @@
 -- Joined numbers, one more at a time.
-use Rattle.std.proofs.Common.{◌≡◌, ℕ, zero, suc, ◌+◌, ◌*◌, ◌/◌, ◌%◌, ◌^◌, ◌<◌, ◌≤◌, Bool, true, false, List, [], ◌∷◌, ◌++◌, map, length, get_or, take, drop, set, sym, refl, ap, ◌∙◌, arith, length-set}
-use Rattle.std.proofs.lemmas.List.{take_more_set, take_all, take_more, map-append}
+use Rattle.std.proofs.Common.{◌≡◌, ℕ, ◌+◌, ◌*◌, ◌/◌, ◌%◌, ◌^◌, ◌<◌, ◌≤◌, Bool, true, false, List, [], ◌∷◌, ◌++◌, length, take, set, sym, refl, ap, ◌∙◌, arith, length-set}
+use Rattle.std.proofs.lemmas.List.{take_more_set, take_all}
 use Rattle.words.specs.Raw.{Raw, Valid, AllValid}
 use Rattle.blocks.specs.Packed.{onto, packed}
-use Rattle.blocks.specs.Filling.{above, weight, Placed}
+use Rattle.blocks.specs.Filling.{above, Placed}
 
 pub onto_push : (w : ℕ) (xs : List ℕ) (y t : ℕ) → onto w (xs ++ y ∷ []) t ≡ onto w xs (y + 2 ^ w * t)
 onto_push w [] y t = refl

@@ -1,11 +1,10 @@
 -- What a reading promises, from the number that it computes with.
-use Rattle.std.proofs.Common.{◌≡◌, ℕ, ◌+◌, ◌*◌, ◌^◌, ◌<◌, List, [], ◌∷◌, length, Ok, Err, Result, sym, refl, ap, ◌∙◌, subst, arith}
+use Rattle.std.proofs.Common.{◌≡◌, ℕ, ◌^◌, ◌<◌, List, length, Ok, Err, Result, sym, ap, ◌∙◌, subst, arith}
 use Rattle.std.proofs.lemmas.List.{length-map}
-use Rattle.words.specs.Raw.{Raw, AllValid}
 use Rattle.blocks.specs.Numbers.{block}
 use Rattle.words.specs.Words.{raw, raws}
 use Rattle.blocks.specs.Blocks.{BlockOf, BlockRead, ReadsBack}
-use Rattle.blocks.specs.Reading.{gives, refuses, told, read_block}
+use Rattle.blocks.specs.Reading.{gives, told, read_block}
 use Rattle.blocks.proofs.Laws.{back, again}
 use Rattle.blocks.proofs.Places.{by_the_rules}
 use Rattle.blocks.proofs.Refused.{block_refused}

@@ -1,5 +1,5 @@
 -- A block read limb by limb.
-use Rattle.std.proofs.Common.{◌≡◌, ℕ, zero, suc, ◌+◌, ◌-◌, ◌*◌, ◌/◌, ◌%◌, ◌^◌, ◌<◌, ◌≤◌, Bool, true, false, eqb, List, [], ◌∷◌, ◌++◌, length, get_or, take, drop, set, sym, refl, ap, ◌∙◌, append-nil, arith}
+use Rattle.std.proofs.Common.{◌≡◌, ℕ, suc, ◌+◌, ◌-◌, ◌*◌, ◌/◌, ◌%◌, ◌^◌, ◌<◌, Bool, true, false, eqb, List, [], ◌∷◌, ◌++◌, length, get_or, take, drop, set, sym, refl, ap, ◌∙◌, append-nil, arith}
 use Rattle.std.proofs.lemmas.List.{take_more_set, take_all, drop_more, map-append}
 use Rattle.std.proofs.lemmas.Bool.{ne_eqb}
 use Rattle.words.specs.Raw.{Raw, control_word}
@@ -9,7 +9,7 @@ use Rattle.words.specs.declared.word.Word.TheVariants.{Control}
 use Rattle.words.specs.declared.control.ControlBody.{ControlBody}
 use Rattle.blocks.specs.Packed.{packed}
 use Rattle.words.specs.Words.{raw, raws}
-use Rattle.blocks.specs.Reading.{Reading, gives, refuses, before, read_block, read_whole, read_cut}
+use Rattle.blocks.specs.Reading.{Reading, gives, refuses, before, read_whole}
 use Rattle.blocks.specs.Taking.{reads, room, after_all, Took, Started}
 use Rattle.words.specs.declared.word.Word.{Word}
 use Rattle.blocks.specs.declared.refusal.BlockRefusal.{BlockRefusal}

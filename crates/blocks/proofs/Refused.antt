@@ -1,10 +1,9 @@
 -- What a refused block shows, by its bit places.
-use Rattle.std.proofs.Common.{◌≡◌, ℕ, zero, suc, ◌+◌, ◌-◌, ◌*◌, ◌/◌, ◌%◌, ◌^◌, ◌<◌, ◌≤◌, true, false, eqb, List, [], ◌∷◌, sym, refl, ap, ◌∙◌, subst, inl, inr, arith}
+use Rattle.std.proofs.Common.{◌≡◌, ℕ, zero, suc, ◌+◌, ◌-◌, ◌*◌, ◌/◌, ◌%◌, ◌^◌, ◌<◌, true, false, eqb, List, [], sym, refl, ap, ◌∙◌, subst, inl, inr, arith}
 use Rattle.std.proofs.lemmas.Bool.{cases_Bool, eqb-true, eqb-false}
 use Rattle.words.specs.Types.{listed}
-use Rattle.words.specs.Raw.{Raw, data_word, control_word}
-use Rattle.blocks.specs.Numbers.{restored}
-use Rattle.blocks.specs.Blocks.{field, bit, MarkedFirst, HasNoControl, HasNoType, HasUnlisted, BlockRefused}
+use Rattle.words.specs.Raw.{Raw}
+use Rattle.blocks.specs.Blocks.{field, bit, MarkedFirst, HasNoType, HasUnlisted, BlockRefused}
 use Rattle.blocks.specs.Reading.{Reading, gives, refuses, before, read_whole, read_cut, read_block}
 use Rattle.blocks.proofs.Bits.{field_above, bit_suc, low_four}
 use Rattle.blocks.proofs.Places.{all_ones}

@@ -1,10 +1,10 @@
 -- One word more of a reading.
-use Rattle.std.proofs.Common.{◌≡◌, ℕ, zero, suc, ◌+◌, ◌*◌, ◌/◌, ◌%◌, ◌^◌, ◌<◌, Bool, true, false, cond, eqb, List, [], ◌∷◌, sym, refl, ap, ◌∙◌}
+use Rattle.std.proofs.Common.{◌≡◌, ℕ, suc, ◌+◌, ◌/◌, ◌%◌, ◌^◌, true, false, eqb}
 use Rattle.words.specs.Types.{listed}
-use Rattle.words.specs.Raw.{Raw, data_word, control_word}
+use Rattle.words.specs.Raw.{data_word, control_word}
 use Rattle.blocks.specs.Numbers.{restored}
-use Rattle.blocks.specs.Reading.{Reading, gives, refuses, before, read_whole, read_cut}
-use Rattle.blocks.specs.declared.refusal.BlockRefusal.TheVariants.{NoControl, NoType, Unlisted}
+use Rattle.blocks.specs.Reading.{refuses, before, read_whole, read_cut}
+use Rattle.blocks.specs.declared.refusal.BlockRefusal.TheVariants.{NoType, Unlisted}
 
 module _ (n j m x b m' x' : ℕ) (mq : m / 2 ≡ m') where
   pub whole_data : m % 2 ≡ 1 → x % 2 ^ 64 ≡ b → x / 2 ^ 64 ≡ x' → read_whole (suc n) j m x ≡ before (data_word b) (read_whole n (j + 1) m' x')

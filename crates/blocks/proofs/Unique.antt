@@ -1,8 +1,8 @@
 -- Four words have one block: the rules fix every bit.
-use Rattle.std.proofs.Common.{◌≡◌, ℕ, zero, suc, ◌+◌, ◌-◌, ◌*◌, ◌/◌, ◌%◌, ◌^◌, ◌<◌, ◌≤◌, ◌⊎◌, List, [], ◌∷◌, length, sym, refl, ap, ◌∙◌, inl, inr, arith}
+use Rattle.std.proofs.Common.{◌≡◌, ℕ, zero, suc, ◌+◌, ◌-◌, ◌*◌, ◌/◌, ◌<◌, ◌≤◌, ◌⊎◌, List, [], ◌∷◌, length, sym, refl, ◌∙◌, inl, inr, arith}
 use Rattle.std.proofs.lemmas.Bool.{cases_lt}
 use Rattle.words.specs.Raw.{Raw, data_word, control_word, mark}
-use Rattle.blocks.specs.Blocks.{field, bit, word, FirstControl, DataBlock, MixedBlock, BlockOf}
+use Rattle.blocks.specs.Blocks.{bit, word, FirstControl, DataBlock, MixedBlock, BlockOf}
 use Rattle.blocks.proofs.Bits.{same_field, same_bits}
 
 -- either all words are data, or one is the first control word

@@ -1,5 +1,5 @@
 -- For proofs: what is left to place above the bits that a block has before its bodies.
-use Rattle.std.specs.Prelude.{◌≡◌, ℕ, ◌+◌, ◌*◌, ◌^◌, ◌<◌, Bool, true, false, List, [], ◌∷◌}
+use Rattle.std.specs.Prelude.{◌≡◌, ℕ, ◌+◌, ◌*◌, ◌^◌, ◌<◌, Bool, true, false, List, ◌∷◌}
 use Rattle.words.specs.Raw.{Raw, Valid}
 use Rattle.blocks.specs.Numbers.{whole, cut, block}
 

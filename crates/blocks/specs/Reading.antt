@@ -1,5 +1,5 @@
 -- For proofs: what a block reads as, word by word from the front.
-use Rattle.std.specs.Prelude.{◌≡◌, ℕ, zero, suc, ◌+◌, ◌*◌, ◌/◌, ◌%◌, ◌^◌, Bool, true, false, cond, List, [], ◌∷◌, Ok, Err, Result, ◌==◌}
+use Rattle.std.specs.Prelude.{ℕ, zero, suc, ◌+◌, ◌/◌, ◌%◌, ◌^◌, cond, List, [], ◌∷◌, Ok, Err, Result, ◌==◌}
 use Rattle.words.specs.Types.{listed}
 use Rattle.words.specs.Raw.{Raw, data_word, control_word}
 use Rattle.blocks.specs.Numbers.{restored}

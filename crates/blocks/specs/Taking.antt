@@ -2,7 +2,7 @@
 use Rattle.std.specs.Prelude.{◌≡◌, ℕ, suc, ◌+◌, ◌*◌, ◌/◌, ◌^◌, ◌<◌, Bool, true, false, List, [], ◌∷◌, Ok, Err, Result}
 use Rattle.words.specs.Raw.{Raw}
 use Rattle.words.specs.Words.{raw}
-use Rattle.blocks.specs.Reading.{Reading, gives, refuses, before, read_whole, read_cut, read_block}
+use Rattle.blocks.specs.Reading.{Reading, refuses, before, read_whole, read_cut, read_block}
 use Rattle.words.specs.declared.word.Word.{Word}
 use Rattle.blocks.specs.declared.refusal.BlockRefusal.{BlockRefusal}
 

@@ -1,7 +1,7 @@
 -- The table of the key, by one test that follows the sequence through it.
 use Rattle.std.proofs.Common.{◌≡◌, ℕ, zero, suc, ◌+◌, ◌*◌, ◌%◌, ◌<◌, Bool, true, false, T, eqb, List, [], ◌∷◌, length, get_or, sym, refl, ap, ◌∙◌, subst, le_of_suc-le-suc, not-suc-le-zero, add-one, arith, eqb→eq}
 use Rattle.code.specs.Entries.{Entry}
-use Rattle.code.specs.Sequence.{history, sequence, gathered, key}
+use Rattle.code.specs.Sequence.{history, gathered, key}
 
 abbrev both : Bool → Bool → Bool
 both true b = b

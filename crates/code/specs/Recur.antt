@@ -1,10 +1,10 @@
 -- The scrambling sequence obeys its recurrence, alone, and the key has its bits.
-use Rattle.std.specs.Prelude.{◌≡◌, ℕ, zero, suc, ◌+◌, ◌-◌, ◌*◌, ◌/◌, ◌%◌, ◌^◌, ◌<◌, ℤ, pos, negsuc, ◌-ℤ◌, slice_index, refl}
+use Rattle.std.specs.Prelude.{◌≡◌, ℕ, zero, suc, ◌+◌, ◌*◌, ◌/◌, ◌%◌, ◌^◌, ◌<◌, ℤ, pos, negsuc, ◌-ℤ◌, slice_index, refl}
 use Rattle.std.proofs.Common.{sym, ap, ap₂, ◌∙◌, arith}
 use Rattle.std.proofs.Math.Nat.{pow-succ', div-div-eq-div-mul}
 use Rattle.std.proofs.lemmas.List.FromFn.{get_or-map-range_with_len}
 use Rattle.std.proofs.lemmas.Int.{ints}
-use Rattle.code.specs.Sequence.{Recurrence, SequenceLaws, history, sequence, gathered, key}
+use Rattle.code.specs.Sequence.{Recurrence, SequenceLaws, history, sequence, gathered}
 
 -- place i of the history of bit k holds bit k − 1 − i
 abbrev Aligned : (ℤ → ℕ) → ℕ → Type 0

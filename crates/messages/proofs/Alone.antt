@@ -1,12 +1,11 @@
 -- Eighty valid words have a message, and no other eighty have the same.
-use Rattle.std.proofs.Common.{◌≡◌, ℕ, zero, suc, ◌+◌, ◌*◌, ◌^◌, ◌<◌, List, [], ◌∷◌, length, take, drop, sym, refl, ap, ◌∙◌, pow-suc, arith}
+use Rattle.std.proofs.Common.{◌≡◌, ℕ, zero, suc, ◌*◌, ◌^◌, ◌<◌, List, length, take, drop, sym, ap, ◌∙◌, pow-suc, arith}
 use Rattle.std.proofs.lemmas.List.{length-map, length-take-le, length-drop}
 use Rattle.words.specs.Raw.{Raw, AllValid}
 use Rattle.words.specs.Words.{raw, raws}
 use Rattle.words.specs.declared.word.Word.{Word}
 use Rattle.words.proofs.Same.{same_words}
 use Rattle.blocks.specs.Packed.{packed}
-use Rattle.blocks.specs.Numbers.{block}
 use Rattle.blocks.proofs.Bounds.{block_lt}
 use Rattle.messages.specs.Messages.{MessageOf}
 use Rattle.messages.specs.Numbers.{message, message_of}

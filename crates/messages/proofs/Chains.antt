@@ -1,9 +1,8 @@
 -- One push after another is one push.
-use Rattle.std.proofs.Common.{◌≡◌, ℕ, zero, suc, ◌+◌, ◌-◌, ◌*◌, ◌/◌, ◌%◌, ◌^◌, ◌<◌, ◌≤◌, List, [], ◌∷◌, ◌++◌, length, get_or, take, drop, set, sym, refl, ap, ◌∙◌, mul_assoc, mul_comm, mul-add, arith}
+use Rattle.std.proofs.Common.{◌≡◌, ℕ, ◌+◌, ◌*◌, ◌^◌, ◌<◌, List, [], ◌∷◌, length, get_or, take, ap, ◌∙◌, mul_assoc, mul-add, arith}
 use Rattle.std.proofs.lemmas.Nat.{pow-add}
 use Rattle.blocks.specs.Packed.{onto, packed}
-use Rattle.symbols.specs.Symbols.{Symbols}
-use Rattle.messages.specs.Pens.{Ready, Pushed}
+use Rattle.messages.specs.Pens.{Pushed}
 
 -- one push after another is one push
 module _ {v w acc fill at : ℕ} {out : List ℕ} {acc₁ fill₁ at₁ : ℕ} {out₁ : List ℕ} {v₂ w₂ acc₂ fill₂ at₂ : ℕ} {out₂ : List ℕ} where

@@ -1,7 +1,7 @@
 -- Groups of four words, and a turn of the writer.
-use Rattle.std.proofs.Common.{◌≡◌, ℕ, zero, suc, ◌+◌, ◌-◌, ◌*◌, ◌^◌, ◌<◌, ◌≤◌, List, [], ◌∷◌, ◌++◌, length, get_or, take, drop, set, sym, refl, ap, ◌∙◌, append_assoc, arith, length-set}
-use Rattle.std.proofs.lemmas.List.{drop_more, take_more_set, take-map, drop-map, drop-drop, map-append, drop-take, take-take, take-append-drop, take_all, drop_all}
-use Rattle.words.specs.Raw.{Raw, Valid, AllValid}
+use Rattle.std.proofs.Common.{◌≡◌, ℕ, suc, ◌+◌, ◌-◌, ◌*◌, ◌^◌, ◌<◌, ◌≤◌, List, [], ◌∷◌, ◌++◌, length, get_or, take, drop, set, sym, refl, ap, ◌∙◌, append_assoc, arith, length-set}
+use Rattle.std.proofs.lemmas.List.{drop_more, take_more_set, take-map, drop-map, drop-drop, map-append, drop-take, take-take, take-append-drop, take_all}
+use Rattle.words.specs.Raw.{Raw, AllValid}
 use Rattle.blocks.specs.Numbers.{block}
 use Rattle.blocks.specs.Packed.{onto, packed}
 use Rattle.words.specs.Words.{raw, raws}

@@ -1,15 +1,14 @@
 -- The two laws of a message.
-use Rattle.std.proofs.Common.{◌≡◌, ℕ, zero, suc, ◌+◌, ◌-◌, ◌*◌, ◌/◌, ◌%◌, ◌^◌, ◌<◌, ◌≤◌, List, [], ◌∷◌, ◌++◌, length, get_or, take, drop, sym, refl, ap, ◌∙◌, pow-suc, arith}
+use Rattle.std.proofs.Common.{◌≡◌, ℕ, zero, suc, ◌+◌, ◌*◌, ◌/◌, ◌%◌, ◌^◌, ◌<◌, List, [], ◌∷◌, ◌++◌, length, take, drop, sym, refl, ap, pow-suc, arith}
 use Rattle.std.proofs.lemmas.List.{length-take-le, length-drop, take-append-drop, take_at, drop_at, length-append}
 use Rattle.words.specs.Raw.{Raw, AllValid}
 use Rattle.blocks.specs.Numbers.{block}
 use Rattle.blocks.specs.Packed.{packed}
 use Rattle.blocks.specs.Reading.{Reading, gives, refuses, read_block}
-use Rattle.blocks.specs.declared.refusal.BlockRefusal.{BlockRefusal}
 use Rattle.blocks.proofs.Laws as blocks
 use Rattle.blocks.proofs.Bounds.{block_lt}
 use Rattle.messages.specs.Numbers.{message}
-use Rattle.messages.specs.Reading.{MessageReading, gives_all, refuses_at, behind, next, read_message}
+use Rattle.messages.specs.Reading.{MessageReading, gives_all, refuses_at, next, read_message}
 use Rattle.symbols.specs.Symbols.{Symbols}
 
 pub valid_take : (n : ℕ) (ws : List Raw) → AllValid ws → AllValid (take n ws)

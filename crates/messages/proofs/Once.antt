@@ -1,5 +1,5 @@
 -- The message of valid words is never refused, and no message is refused in two ways.
-use Rattle.std.proofs.Common.{◌≡◌, ℕ, ◌<◌, List, length, ap, subst, ap₂, inl, inr, arith}
+use Rattle.std.proofs.Common.{◌≡◌, ℕ, List, length, ap, subst, ap₂, inl, inr, arith}
 use Rattle.std.proofs.lemmas.Bool.{cases_order}
 use Rattle.symbols.specs.Symbols.{Symbols, FirstAbove}
 use Rattle.words.specs.Raw.{Raw, AllValid}

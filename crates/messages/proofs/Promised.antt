@@ -1,14 +1,14 @@
 -- What writing and reading a message promise, from the numbers that they compute with.
-use Rattle.std.proofs.Common.{◌≡◌, ℕ, zero, suc, ◌+◌, ◌*◌, ◌/◌, ◌%◌, ◌^◌, ◌<◌, ◌≤◌, List, [], ◌∷◌, length, get_or, take, drop, Ok, Err, Result, sym, refl, ap, ◌∙◌, subst, pow-suc, arith}
+use Rattle.std.proofs.Common.{◌≡◌, ℕ, zero, suc, ◌+◌, ◌*◌, ◌/◌, ◌%◌, ◌^◌, ◌<◌, List, length, take, drop, Ok, Err, Result, sym, refl, ap, ◌∙◌, subst, pow-suc, arith}
 use Rattle.std.proofs.lemmas.List.{length-map, length-take-le, length-drop, drop-drop}
-use Rattle.symbols.specs.Symbols.{Symbols, Message}
+use Rattle.symbols.specs.Symbols.{Symbols}
 use Rattle.words.specs.Raw.{Raw, AllValid}
 use Rattle.words.specs.Words.{raw, raws}
 use Rattle.words.specs.declared.word.Word.{Word}
 use Rattle.words.proofs.Same.{same_words}
 use Rattle.blocks.specs.Packed.{packed}
 use Rattle.blocks.specs.Numbers.{block}
-use Rattle.blocks.specs.Blocks.{field, bit, BlockOf, BlockRefused}
+use Rattle.blocks.specs.Blocks.{field, bit, BlockOf}
 use Rattle.blocks.specs.Reading.{Reading, gives, refuses, read_block}
 use Rattle.blocks.specs.declared.refusal.BlockRefusal.{BlockRefusal}
 use Rattle.blocks.proofs.Bits.{field_above, field_bit}
@@ -18,7 +18,7 @@ use Rattle.blocks.proofs.Refused.{block_refused}
 use Rattle.blocks.proofs.Unique.{one_block}
 use Rattle.messages.specs.Messages.{group, block_at, MessageOf, Readable, FirstRefused, MessageRead, ReadsBack}
 use Rattle.messages.specs.Numbers.{message, message_of}
-use Rattle.messages.specs.Reading.{MessageReading, gives_all, refuses_at, behind, next, read_message, Told}
+use Rattle.messages.specs.Reading.{MessageReading, gives_all, refuses_at, next, read_message, Told}
 use Rattle.messages.specs.declared.refusal.MessageRefusal.{MessageRefusal}
 use Rattle.messages.specs.declared.refusal.MessageRefusal.TheVariants.{Symbol, Block}
 use Rattle.messages.proofs.InPlace as in_place

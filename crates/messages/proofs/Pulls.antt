@@ -1,5 +1,5 @@
 -- Bits drawn from symbols.
-use Rattle.std.proofs.Common.{◌≡◌, ℕ, zero, suc, ◌+◌, ◌-◌, ◌*◌, ◌/◌, ◌%◌, ◌^◌, ◌<◌, ◌≤◌, List, [], ◌∷◌, ◌++◌, length, get_or, take, drop, sym, refl, ap, ◌∙◌, mul_assoc, arith}
+use Rattle.std.proofs.Common.{◌≡◌, ℕ, ◌+◌, ◌-◌, ◌*◌, ◌/◌, ◌%◌, ◌^◌, ◌<◌, ◌≤◌, List, length, get_or, drop, sym, ap, ◌∙◌, mul_assoc, arith}
 use native.Mathlib.Nat.{add-mul-div_left, add-mul-mod_self_left}
 use lib.Bits.{bit_and, and_mask}
 use Rattle.std.proofs.lemmas.Nat.{pow-add, pow_pos, shl_whole, one_shl, shr_below}

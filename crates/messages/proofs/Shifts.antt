@@ -1,8 +1,7 @@
 -- Bits that are shifted into place keep what they are.
-use Rattle.std.proofs.Common.{◌≡◌, ℕ, zero, suc, ◌+◌, ◌-◌, ◌*◌, ◌/◌, ◌%◌, ◌^◌, ◌<◌, ◌≤◌, List, [], ◌∷◌, ◌++◌, length, get_or, take, set, sym, refl, ap, ◌∙◌, inl, inr, zero-lt-suc, mul_assoc, mul_comm, mul-add, arith}
-use native.Mathlib.Nat.{pow-le-pow_right}
-use Rattle.std.proofs.lemmas.Nat.{pow-add, pow_pos, shl_whole, mul-add-lt, mul-lt}
-use Rattle.std.proofs.lemmas.List.{take_more_set, length_push, get_or_append_left, get_or_push, length-take-le}
+use Rattle.std.proofs.Common.{◌≡◌, ℕ, ◌+◌, ◌-◌, ◌*◌, ◌/◌, ◌%◌, ◌^◌, ◌<◌, ◌≤◌, List, [], ◌∷◌, ◌++◌, length, take, set, sym, ap, ◌∙◌, inl, inr, mul_assoc, mul_comm, mul-add, arith}
+use Rattle.std.proofs.lemmas.Nat.{pow-add, shl_whole, mul-add-lt}
+use Rattle.std.proofs.lemmas.List.{take_more_set, length_push, get_or_append_left, get_or_push}
 use Rattle.std.proofs.lemmas.Bool.{cases_lt}
 use Rattle.blocks.specs.Packed.{onto}
 use Rattle.blocks.proofs.Packing.{onto_set}

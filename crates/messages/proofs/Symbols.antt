@@ -1,5 +1,5 @@
 -- Symbols are the digits of a message's number.
-use Rattle.std.proofs.Common.{◌≡◌, ℕ, zero, suc, ◌+◌, ◌*◌, ◌/◌, ◌%◌, ◌^◌, ◌<◌, List, [], ◌∷◌, length, get_or, sym, refl, ap, ◌∙◌, pow-suc, arith}
+use Rattle.std.proofs.Common.{◌≡◌, ℕ, zero, suc, ◌+◌, ◌*◌, ◌/◌, ◌%◌, ◌^◌, ◌<◌, List, [], ◌∷◌, length, refl, ap, pow-suc, arith}
 use Rattle.symbols.specs.Symbols.{Symbols}
 use Rattle.blocks.specs.Packed.{packed}
 use Rattle.messages.specs.Numbers.{digits}

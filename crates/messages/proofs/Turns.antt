@@ -1,9 +1,9 @@
 -- A turn of the reader.
-use Rattle.std.proofs.Common.{◌≡◌, ℕ, zero, suc, ◌+◌, ◌-◌, ◌*◌, ◌/◌, ◌%◌, ◌^◌, ◌<◌, ◌≤◌, List, [], ◌∷◌, ◌++◌, length, take, sym, refl, ap, ◌∙◌, append_assoc, append-nil, arith}
+use Rattle.std.proofs.Common.{◌≡◌, ℕ, suc, ◌+◌, ◌-◌, ◌*◌, ◌/◌, ◌%◌, ◌^◌, ◌<◌, List, [], ◌++◌, length, take, sym, refl, ap, ◌∙◌, append_assoc, append-nil, arith}
 use Rattle.std.proofs.lemmas.List.{map-append, take_all}
 use Rattle.words.specs.Raw.{Raw}
 use Rattle.words.specs.Words.{raw, raws}
-use Rattle.blocks.specs.Reading.{Reading, gives, refuses, read_block}
+use Rattle.blocks.specs.Reading.{gives, refuses, read_block}
 use Rattle.words.specs.declared.word.Word.{Word}
 use Rattle.blocks.specs.declared.refusal.BlockRefusal.{BlockRefusal}
 use Rattle.messages.specs.Reading.{MessageReading, gives_all, refuses_at, behind, next, read_message}

@@ -1,5 +1,5 @@
 -- For proofs: writing bits as symbols: `fill` bits in `acc` wait above the `at` symbols that are written.
-use Rattle.std.specs.Prelude.{◌≡◌, ℕ, ◌+◌, ◌*◌, ◌^◌, ◌<◌, ◌≤◌, List, length, take}
+use Rattle.std.specs.Prelude.{◌≡◌, ℕ, ◌+◌, ◌*◌, ◌^◌, ◌<◌, List, take}
 use Rattle.blocks.specs.Packed.{onto}
 use Rattle.symbols.specs.Symbols.{Symbols}
 

@@ -1,10 +1,10 @@
 -- Counting from marker to marker: what a reading says of its place, that there is one count, and the count of signals end to end.
-use Rattle.std.proofs.Common.{◌≡◌, ℕ, zero, suc, ◌+◌, ◌-◌, ◌*◌, ◌<◌, ◌≤◌, Bool, true, false, ◌⊎◌, List, [], ◌∷◌, ◌++◌, length, get_or, is_ok, Ok, Err, Result, sym, refl, ap, ◌∙◌, subst, inl, inr, arith}
+use Rattle.std.proofs.Common.{◌≡◌, ℕ, suc, ◌+◌, ◌≤◌, true, false, ◌⊎◌, List, length, is_ok, Ok, Err, Result, sym, refl, ap, ◌∙◌, subst, inl, inr, arith}
 use Rattle.std.proofs.lemmas.Bool.{cases_order, true≢false}
 use Rattle.training.specs.declared.records.Training.{Training}
 use Rattle.training.specs.declared.refusals.TrainingRefusal.{TrainingRefusal}
 use Rattle.training.specs.declared.refusals.TrainingRefusal.TheVariants.{Values, Seed, Length, Short, NoMarker, BrokenCell, Reserved, Pattern, NothingFound}
-use Rattle.signal.specs.Signal.{bits_of, Stands}
+use Rattle.signal.specs.Signal.{bits_of}
 use Rattle.signal.specs.Calls.{Sized, Read}
 use Rattle.signal.specs.Laws.{ReadsOnce}
 use Rattle.signal.proofs.SignalParts.{length_signal}

@@ -1,16 +1,14 @@
 -- Written signals end to end: each is the first to be found, and good.
-use Rattle.std.proofs.Common.{◌≡◌, ℕ, zero, suc, ◌+◌, ◌-◌, ◌*◌, ◌<◌, ◌≤◌, List, [], ◌∷◌, ◌++◌, length, get_or, Ok, Err, Result, sym, refl, ap, ◌∙◌, subst, arith, length-append}
+use Rattle.std.proofs.Common.{◌≡◌, ℕ, suc, ◌+◌, List, [], ◌∷◌, ◌++◌, length, Ok, Err, Result, sym, refl, ap, ◌∙◌, subst, arith, length-append}
 use Rattle.std.proofs.lemmas.List.{append-nil, append_assoc}
 use Rattle.training.specs.declared.refusals.TrainingRefusal.{TrainingRefusal}
 use Rattle.training.specs.Fields.{control_number, status_number}
 use Rattle.signal.specs.Signal.{least_first, bits_of, Stands, signal}
-use Rattle.signal.specs.Calls.{Sized}
 use Rattle.signal.proofs.Standing.{stands_middle}
 use Rattle.signal.proofs.SignalParts.{length_signal, signal_front, front_marker}
 use Rattle.recording.specs.declared.counts.Survey.{Survey}
-use Rattle.recording.specs.Finding.{FirstMarker, Markerless}
 use Rattle.recording.specs.Surveying.{Good, Counted, over, good, Surveyed}
-use Rattle.recording.specs.Laws.{CountsOnce, EndToEnd, none, more, CountsSignals}
+use Rattle.recording.specs.Laws.{EndToEnd, none, more, CountsSignals}
 use Rattle.recording.proofs.Markers.{marker_fits}
 use Rattle.recording.proofs.Counting.{one_count}
 

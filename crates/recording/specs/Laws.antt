@@ -1,5 +1,5 @@
 -- What a survey says of recordings.
-use Rattle.std.specs.Prelude.{◌≡◌, ℕ, suc, List, [], ◌++◌, Ok, Err, Result}
+use Rattle.std.specs.Prelude.{◌≡◌, ℕ, suc, List, [], ◌++◌, Ok, Result}
 use Rattle.training.specs.declared.records.Control.{Control}
 use Rattle.training.specs.declared.records.Status.{Status}
 use Rattle.training.specs.declared.refusals.TrainingRefusal.{TrainingRefusal}

@@ -1,6 +1,6 @@
 -- What the cells of a recording carry: one more bit of a field, and the two fields after a marker.
-use Rattle.std.proofs.Common.{◌≡◌, ℕ, zero, suc, ◌+◌, ◌-◌, ◌*◌, ◌^◌, ◌<◌, ◌≤◌, List, [], ◌∷◌, ◌++◌, length, get_or, sym, refl, ap, ◌∙◌, subst, add-one, arith, length-append}
-use Rattle.signal.specs.Signal.{Stands, marker, cell_end, cell, cells, field, highest_first, front}
+use Rattle.std.proofs.Common.{◌≡◌, ℕ, suc, ◌+◌, ◌-◌, ◌*◌, ◌<◌, ◌≤◌, List, [], ◌∷◌, ◌++◌, length, get_or, sym, refl, ap, ◌∙◌, subst, add-one, arith, length-append}
+use Rattle.signal.specs.Signal.{Stands, marker, cell_end, cell, cells, field, highest_first}
 use Rattle.signal.specs.Calls.{Broken, Fronted}
 use Rattle.signal.specs.Inner.{level_before, CellAt, FieldBroken, FieldAt}
 use Rattle.signal.proofs.Standing.{stands_join, stands_left, stands_right}

@@ -1,5 +1,5 @@
 -- The bits of a field, from bit 15 down.
-use Rattle.std.proofs.Common.{◌≡◌, ℕ, zero, suc, ◌+◌, ◌-◌, ◌*◌, ◌/◌, ◌%◌, ◌^◌, ◌<◌, ◌≤◌, List, [], ◌∷◌, ◌++◌, length, get_or, sym, refl, ap, ◌∙◌, one-add, arith}
+use Rattle.std.proofs.Common.{◌≡◌, ℕ, zero, suc, ◌+◌, ◌-◌, ◌*◌, ◌/◌, ◌%◌, ◌^◌, ◌<◌, List, [], ◌∷◌, ◌++◌, length, get_or, sym, refl, ap, ◌∙◌, one-add, arith}
 use Rattle.std.proofs.lemmas.Nat.{shr-shr}
 use Rattle.signal.specs.Signal.{highest_first}
 use Rattle.signal.proofs.Bits.{same_bits}

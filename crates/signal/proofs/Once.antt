@@ -1,5 +1,5 @@
 -- A reading has one answer: the checks come in stages, and a reading ends at the first that is not passed.
-use Rattle.std.proofs.Common.{◌≡◌, ℕ, zero, suc, ◌+◌, ◌-◌, ◌*◌, ◌<◌, ◌≤◌, ◌⊎◌, List, length, Ok, Err, Result, sym, refl, ap, ◌∙◌, subst, inl, inr, arith}
+use Rattle.std.proofs.Common.{◌≡◌, ℕ, zero, suc, ◌+◌, ◌-◌, ◌<◌, List, Ok, Err, Result, sym, refl, ap, ◌∙◌, subst, inl, inr, arith}
 use Rattle.std.proofs.lemmas.Bool.{cases_order}
 use Rattle.training.specs.declared.records.Control.{Control}
 use Rattle.training.specs.declared.records.Status.{Status}
@@ -7,9 +7,9 @@ use Rattle.training.specs.declared.records.Training.{Training}
 use Rattle.training.specs.declared.refusals.TrainingRefusal.{TrainingRefusal}
 use Rattle.training.specs.declared.refusals.TrainingRefusal.TheVariants.{Values, Seed, Length, Short, NoMarker, BrokenCell, Reserved, Pattern, NothingFound}
 use Rattle.training.specs.Fields.{control_number, status_number}
-use Rattle.signal.specs.Signal.{bits_of, Stands, front, signal, IsSeed}
-use Rattle.signal.specs.Calls.{Wrote, Sized, Room, Marked, Fronted, Read, ReadOk, ReadRefused}
-use Rattle.signal.specs.Laws.{ReadsBack, IsWritten, ReadsOnce}
+use Rattle.signal.specs.Signal.{bits_of, Stands, front}
+use Rattle.signal.specs.Calls.{Sized, Room, Marked, Fronted, Read, ReadOk, ReadRefused}
+use Rattle.signal.specs.Laws.{ReadsBack, IsWritten}
 use Rattle.signal.proofs.SignalParts.{length_signal, signal_front, signal_back, front_marker}
 use Rattle.signal.proofs.OneSignal.{same_front, signal_fronted, same_signal, front_unbroken}
 

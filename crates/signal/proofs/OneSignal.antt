@@ -1,12 +1,12 @@
 -- A place has at most one signal: what stands there says which fields, and which seed.
-use Rattle.std.proofs.Common.{◌≡◌, ℕ, zero, suc, ◌+◌, ◌-◌, ◌*◌, ◌/◌, ◌%◌, ◌^◌, ◌<◌, ◌≤◌, List, [], ◌∷◌, ◌++◌, length, get_or, take, drop, sym, refl, ap, ◌∙◌, subst, arith, take_at, drop_at}
+use Rattle.std.proofs.Common.{◌≡◌, ℕ, zero, suc, ◌+◌, ◌-◌, ◌*◌, ◌<◌, ◌≤◌, List, [], ◌∷◌, ◌++◌, length, get_or, take, drop, sym, refl, ap, ◌∙◌, subst, arith, take_at, drop_at}
 use Rattle.std.proofs.lemmas.List.{append_cancel_left}
 use Rattle.training.specs.declared.records.Control.{Control}
 use Rattle.training.specs.declared.records.Status.{Status}
 use Rattle.training.specs.Fields.{control_number, status_number}
 use Rattle.training.proofs.Numbering.{control_below, status_below}
 use Rattle.training.proofs.OneRecord.{same_control, same_status}
-use Rattle.signal.specs.Signal.{Stands, marker, turned, cell_end, cell, cells, highest_first, field, front, signal, IsSeed}
+use Rattle.signal.specs.Signal.{Stands, marker, cell_end, cell, cells, highest_first, field, front, signal, IsSeed}
 use Rattle.signal.specs.Calls.{Fronted, Broken}
 use Rattle.signal.specs.Inner.{level_before, CellAt}
 use Rattle.signal.proofs.Standing.{stands_left, stands_right, stands_same}

@@ -1,9 +1,6 @@
 -- What the bits of a recording show of a seed, its pattern and the end zeros.
-use Rattle.std.proofs.Common.{◌≡◌, ℕ, zero, suc, ◌+◌, ◌-◌, ◌*◌, ◌/◌, ◌%◌, ◌^◌, ◌<◌, ◌≤◌, ◌⊎◌, List, [], ◌∷◌, ◌++◌, length, get_or, replicate, sym, refl, ap, ◌∙◌, subst, inl, inr, pow-suc, arith}
-use Rattle.std.proofs.lemmas.List.{length_push, get_or_append_left, get_or_push}
-use Rattle.std.proofs.lemmas.Bool.{cases_lt}
-use Rattle.signal.specs.Signal.{Stands, least_first, pattern, pattern_next, back, IsSeed, turned}
-use Rattle.signal.specs.Inner.{PatternAt}
+use Rattle.std.proofs.Common.{◌≡◌, ℕ, suc, ◌+◌, ◌-◌, ◌*◌, ◌/◌, ◌%◌, ◌<◌, ◌≤◌, List, [], ◌∷◌, length, get_or, replicate, sym, refl, ap, ◌∙◌, subst, arith}
+use Rattle.signal.specs.Signal.{Stands, least_first, pattern, pattern_next, back, turned}
 use Rattle.signal.proofs.Bits.{length_least, get_or_least, same_least}
 use Rattle.signal.proofs.Pattern.{length_pattern, pattern_more, pattern_early, pattern_later, next_later}
 use Rattle.signal.proofs.Standing.{stands_join, stands_left, stands_right, stands_same, one_stands}

@@ -1,5 +1,5 @@
 -- One TUI sent after those already sent.
-use Rattle.std.proofs.Common.{◌≡◌, ℕ, zero, suc, ◌+◌, ◌-◌, ◌*◌, ◌/◌, ◌%◌, ◌^◌, ◌<◌, ◌≤◌, ◌≢◌, ◌⊎◌, List, [], ◌∷◌, ◌++◌, length, get_or, take, set, sym, refl, ap, ◌∙◌, inl, inr, mod-lt, mul_comm, add_comm, mul-le-mul_left, arith, length-set, pow_pos, pow_mono}
+use Rattle.std.proofs.Common.{◌≡◌, ℕ, suc, ◌+◌, ◌-◌, ◌*◌, ◌/◌, ◌%◌, ◌^◌, ◌<◌, ◌≤◌, List, [], ◌∷◌, ◌++◌, length, get_or, take, set, sym, ap, ◌∙◌, inl, inr, mod-lt, mul_comm, add_comm, mul-le-mul_left, arith, length-set, pow_pos, pow_mono}
 use lib.Pow.{mod-mod-pow}
 use Rattle.std.proofs.lemmas.Nat.{field_of, shr_high, mod_low}
 use Rattle.std.proofs.lemmas.List.{get_or-set_same, get_or-set_other, take_more}

@@ -1,5 +1,5 @@
 -- Pieces sent one after the other: what a line holds after each.
-use Rattle.std.proofs.Common.{◌≡◌, ℕ, zero, suc, ◌+◌, ◌-◌, ◌*◌, ◌/◌, ◌%◌, ◌^◌, ◌<◌, ◌≤◌, List, [], ◌∷◌, ◌++◌, length, get_or, take, sym, refl, ap, ◌∙◌, add-zero, arith, length-take-le, get_or-take}
+use Rattle.std.proofs.Common.{◌≡◌, ℕ, ◌+◌, ◌-◌, ◌*◌, ◌/◌, ◌%◌, ◌^◌, ◌<◌, ◌≤◌, List, [], ◌∷◌, ◌++◌, length, get_or, take, sym, ap, ◌∙◌, add-zero, arith, length-take-le, get_or-take}
 use Rattle.std.proofs.lemmas.List.{append-nil, append_assoc, get_or-append-add, take_more}
 use Rattle.signal.specs.Signal.{cell, cells, field, pattern, pattern_next}
 use Rattle.signal.proofs.Cells.{cells_end, cells_push, after_cells}

@@ -1,5 +1,5 @@
 -- A signal is its front and its back, and a front its marker and its cells.
-use Rattle.std.proofs.Common.{◌≡◌, ℕ, ◌+◌, ◌-◌, ◌*◌, ◌<◌, ◌≤◌, List, [], ◌∷◌, ◌++◌, length, get_or, sym, refl, ap, ◌∙◌, subst, arith, length-append}
+use Rattle.std.proofs.Common.{◌≡◌, ℕ, ◌+◌, List, [], ◌∷◌, ◌++◌, length, ◌∙◌, arith, length-append}
 use Rattle.training.specs.declared.records.Control.{Control}
 use Rattle.training.specs.declared.records.Status.{Status}
 use Rattle.training.specs.Fields.{control_number, status_number}

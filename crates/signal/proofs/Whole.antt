@@ -1,10 +1,7 @@
 -- The pieces of a signal, sent in their order, make the signal.
-use Rattle.std.proofs.Common.{◌≡◌, ℕ, ◌+◌, ◌-◌, ◌*◌, ◌<◌, ◌≤◌, List, [], ◌∷◌, ◌++◌, length, get_or, take, replicate, sym, refl, ap, ◌∙◌, arith, take_all, get_or-take}
+use Rattle.std.proofs.Common.{◌≡◌, ℕ, ◌+◌, ◌-◌, ◌*◌, List, ◌++◌, length, get_or, take, replicate, sym, refl, ap, ◌∙◌, arith, take_all, get_or-take}
 use Rattle.std.proofs.lemmas.List.{append_assoc}
-use Rattle.training.specs.declared.records.Control.{Control}
-use Rattle.training.specs.declared.records.Status.{Status}
-use Rattle.signal.specs.Signal.{marker, cells, field, front, pattern, back, signal}
-use Rattle.training.specs.Fields.{control_number, status_number}
+use Rattle.signal.specs.Signal.{marker, cells, field, front, pattern, back}
 use Rattle.signal.proofs.Cells.{cells_end, cells_join, after_cells}
 use Rattle.signal.proofs.FieldBits.{length_highest}
 

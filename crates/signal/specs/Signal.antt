@@ -1,6 +1,6 @@
 -- A training signal, bit for bit: what a control record, a status record and a seed are on the line.
 -- One TUI is one bit time, and a signal is 4,384 of them.
-use Rattle.std.specs.Prelude.{◌≡◌, ℕ, zero, suc, ◌+◌, ◌-◌, ◌*◌, ◌/◌, ◌%◌, ◌^◌, ◌<◌, ◌≤◌, cond, List, [], ◌∷◌, ◌++◌, length, replicate, nat_lt, slice_index}
+use Rattle.std.specs.Prelude.{◌≡◌, ℕ, zero, suc, ◌+◌, ◌-◌, ◌/◌, ◌%◌, ◌^◌, ◌<◌, ◌≤◌, cond, List, [], ◌∷◌, ◌++◌, length, replicate, nat_lt, slice_index}
 use Rattle.training.specs.declared.records.Control.{Control}
 use Rattle.training.specs.declared.records.Status.{Status}
 use Rattle.training.specs.Fields.{control_number, status_number}

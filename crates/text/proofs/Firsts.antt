@@ -2,7 +2,7 @@
 use Rattle.std.proofs.Common.{◌≡◌, ℕ, zero, suc, ◌+◌, ◌*◌, ◌<◌, cond, eqb, List, [], ◌∷◌, length, get_or, take, drop, refl, ap, ◌∙◌, arith}
 use Rattle.std.proofs.lemmas.List.{length-take, take-take, drop-take, get_or-take, take_all}
 use Rattle.words.specs.Raw.{data_word, control_word}
-use Rattle.text.specs.Text.{fault, names_line, row_line, row_word, value, judged, row_answer, then, rows, behind_names, answer}
+use Rattle.text.specs.Text.{fault, names_line, row_line, row_word, value, judged, row_answer, then, rows, behind_names}
 use Rattle.text.specs.Laws.{Early}
 use Rattle.text.proofs.Faults.{fault_take}
 use Rattle.text.proofs.Steps.{rows_step}

@@ -1,5 +1,5 @@
-use Rattle.std.proofs.Common.{ℕ, ◌*◌, ◌/◌, ◌^◌, ◌<◌, Bool, false, sym, subst, arith}
-use Rattle.blocks.specs.Taking.{Took, room}
+use Rattle.std.proofs.Common.{◌/◌, ◌^◌, Bool, false, sym, subst, arith}
+use Rattle.blocks.specs.Taking.{Took}
 use Rattle.words.specs.declared.word.Word.TheVariants.{Control}
 use Rattle.blocks.proofs.Readings.{took_cut}
 use Rattle.blocks.proofs.reading.take_word.Goals as goal

@@ -1,11 +1,11 @@
-use Rattle.std.proofs.Common.{◌≡◌, ℕ, ◌+◌, ◌*◌, ◌^◌, ◌<◌, ◌≤◌, Bool, List, [], ◌∷◌, length, get_or, take, drop, set, sym, ap, ◌∙◌, subst, arith, length-set}
+use Rattle.std.proofs.Common.{◌≡◌, ℕ, ◌+◌, ◌^◌, ◌<◌, Bool, List, [], ◌∷◌, length, get_or, take, drop, set, sym, ap, ◌∙◌, arith, length-set}
 use Rattle.std.proofs.lemmas.List.{drop_more, take_more, take_all, drop_all, map-append, length-map}
 use Rattle.words.specs.Raw.{Raw, AllValid}
 use Rattle.blocks.specs.Numbers.{block}
 use Rattle.words.specs.Words.{raw, raws}
 use Rattle.words.specs.declared.word.Word.{Word}
 use Rattle.blocks.specs.Packed.{onto, packed}
-use Rattle.blocks.specs.Filling.{above, weight}
+use Rattle.blocks.specs.Filling.{above}
 use Rattle.blocks.proofs.Packing.{fill, filled, valid_push}
 use Rattle.blocks.proofs.Opens.{weight_le}
 use Rattle.blocks.proofs.Bounds.{block_lt}

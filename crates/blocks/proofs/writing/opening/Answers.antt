@@ -1,4 +1,4 @@
-use Rattle.std.proofs.Common.{◌≡◌, sym, ◌∙◌, arith}
+use Rattle.std.proofs.Common.{arith}
 use Rattle.words.specs.Words.{raws}
 use Rattle.blocks.proofs.Opens.{opens_data, opens_cut}
 use Rattle.blocks.proofs.writing.opening.Goals as goal

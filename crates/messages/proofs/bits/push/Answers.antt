@@ -1,4 +1,4 @@
-use Rattle.std.proofs.Common.{◌≡◌, ℕ, ◌+◌, ◌*◌, ◌%◌, ◌^◌, ◌<◌, ◌≤◌, length, take, refl, ap, ◌∙◌, arith}
+use Rattle.std.proofs.Common.{ℕ, ◌+◌, ◌*◌, ◌%◌, ◌^◌, ◌<◌, length, take, refl, ap, ◌∙◌, arith}
 use Rattle.blocks.specs.Packed.{onto}
 use Rattle.messages.proofs.Shifts.{shifted, held_more, begun, held_less, moved, small_more}
 use Rattle.messages.proofs.bits.push.Goals as goal

@@ -1,4 +1,4 @@
-use Rattle.std.proofs.Common.{◌≡◌, ℕ, ◌+◌, ◌*◌, ◌^◌, ◌<◌, ◌≤◌, length, take}
+use Rattle.std.proofs.Common.{◌≡◌, ℕ, ◌+◌, ◌*◌, ◌^◌, ◌<◌, take}
 use Rattle.blocks.specs.Packed.{onto}
 use Rattle.symbols.specs.Symbols.{Symbols}
 use Rattle.messages.proofs.bits.push.Given as goal

@@ -1,5 +1,4 @@
-use Rattle.std.proofs.Common.{◌≡◌, ℕ, subst, arith}
-use Rattle.blocks.specs.Packed.{packed}
+use Rattle.std.proofs.Common.{ℕ, subst, arith}
 use Rattle.messages.specs.Pens.{Pushed}
 use Rattle.messages.proofs.Chains.{both, top, limbs}
 use Rattle.messages.proofs.bits.push_block.Goals as goal

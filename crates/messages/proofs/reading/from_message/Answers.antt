@@ -3,7 +3,7 @@ use Rattle.symbols.specs.Symbols.{Symbols, FirstAbove}
 use Rattle.words.specs.Words.{raws}
 use Rattle.words.specs.declared.word.Word.{Word}
 use Rattle.blocks.specs.Packed.{packed}
-use Rattle.messages.specs.Messages.{MessageOf, ReadsBack}
+use Rattle.messages.specs.Messages.{ReadsBack}
 use Rattle.messages.specs.Numbers.{message_of}
 use Rattle.messages.specs.Reading.{Told, read_message}
 use Rattle.messages.specs.declared.refusal.MessageRefusal.{MessageRefusal}

@@ -1,4 +1,4 @@
-use Rattle.std.proofs.Common.{◌≡◌, ℕ, ◌+◌, ◌-◌, ◌*◌, ◌/◌, ◌%◌, ◌^◌, sym, refl, ap, ◌∙◌, arith}
+use Rattle.std.proofs.Common.{arith}
 use Rattle.blocks.specs.Packed.{packed}
 use Rattle.messages.specs.Reading.{read_message}
 use Rattle.messages.specs.Readers.{ahead}

@@ -1,6 +1,5 @@
-use Rattle.std.proofs.Common.{◌≡◌, ℕ, ◌+◌, ◌-◌, ◌*◌, List, take, drop, sym, refl, ap, ◌∙◌, arith}
+use Rattle.std.proofs.Common.{◌≡◌, ◌+◌, ◌-◌, ◌*◌, List, take, drop, ap, ◌∙◌, arith}
 use Rattle.std.proofs.lemmas.List.{take_all}
-use Rattle.words.specs.Raw.{AllValid}
 use Rattle.blocks.specs.Numbers.{block}
 use Rattle.words.specs.Words.{raws}
 use Rattle.words.specs.declared.word.Word.{Word}

@@ -1,4 +1,4 @@
-use Rattle.std.proofs.Common.{◌≡◌, ℕ, ◌+◌, ◌-◌, ◌*◌, ◌^◌, ◌<◌, ◌≤◌, length, take, drop}
+use Rattle.std.proofs.Common.{◌≡◌, ◌+◌, ◌-◌, ◌*◌, ◌^◌, take, drop}
 use Rattle.blocks.specs.Packed.{onto}
 use Rattle.words.specs.Words.{raws}
 use Rattle.words.specs.Raw.{AllValid}

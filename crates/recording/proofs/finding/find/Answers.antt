@@ -1,6 +1,6 @@
 -- A place whose TUI differ from the marker's has none; past the last place where one fits there is none either.
-use Rattle.std.proofs.Common.{◌≡◌, ℕ, ◌+◌, ◌<◌, ◌≤◌, length, get_or, sym, refl, ap, ◌∙◌, subst, arith, below_more}
-use Rattle.signal.specs.Signal.{bits_of, marker}
+use Rattle.std.proofs.Common.{ℕ, ◌+◌, ◌≤◌, get_or, sym, refl, ap, ◌∙◌, arith, below_more}
+use Rattle.signal.specs.Signal.{bits_of}
 use Rattle.signal.specs.Calls.{Marked}
 use Rattle.signal.proofs.Bits.{length_bits}
 use Rattle.recording.proofs.Markers.{marker_fits, marker_place, marker_stands}

@@ -1,5 +1,5 @@
 -- Each turn counts the signal that is found, and the last search finds none.
-use Rattle.std.proofs.Common.{◌≡◌, ℕ, ◌+◌, ◌*◌, ◌≤◌, length, sym, ◌∙◌, arith}
+use Rattle.std.proofs.Common.{◌+◌, ◌*◌, ◌≤◌, length, sym, ◌∙◌, arith}
 use Rattle.signal.specs.Signal.{bits_of}
 use Rattle.signal.proofs.Bits.{length_bits}
 use Rattle.recording.specs.Surveying.{Good}

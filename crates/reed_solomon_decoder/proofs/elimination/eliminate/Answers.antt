@@ -3,7 +3,6 @@ use Rattle.std.proofs.Common.{◌≡◌, ℕ, ◌+◌, ◌≢◌, List, [], leng
 use native.Mathlib.Decide.{ℕ_discrete}
 use Rattle.reed_solomon_decoder.proofs.Rows.{Reduced, reduced_row, kernel_step}
 use Rattle.reed_solomon_decoder.proofs.elimination.eliminate.Goals as goal
-use Rattle.field.specs.Field.{inv}
 use Rattle.reed_solomon_decoder.specs.Errors.{dot}
 use Rattle.reed_solomon_decoder.specs.Kernel.{Plus}
 

@@ -1,7 +1,7 @@
 -- What is left to show of `decode`.
 use Rattle.std.proofs.Common.{◌≡◌, ℕ, ◌-◌, ◌≤◌, Bool, true, cond, ◌≢◌, List, get_or, take, set, sym, refl, ◌∙◌, subst, not-suc-le-zero, arith, lit≤, length-set, get_or-set_other, get_or-set_same, below_more}
 use Rattle.reed_solomon_algebra.specs.Terms.{terms}
-use Rattle.reed_solomon_decoder.specs.Errors.{Agrees, Explains, located}
+use Rattle.reed_solomon_decoder.specs.Errors.{Agrees, Explains}
 use Rattle.reed_solomon_decoder.proofs.Turns.{elements_set, elements_zeros}
 use Rattle.reed_solomon_decoder.proofs.Composition.{passes, must_pass}
 use Rattle.reed_solomon_decoder.proofs.Searching.{cut_length, cut_within, cut}

@@ -1,5 +1,5 @@
 -- The byte that is stored is the old one, cut below the TUI, with the level put above.
-use Rattle.std.proofs.Common.{◌≡◌, ℕ, ◌+◌, ◌*◌, ◌/◌, ◌%◌, ◌^◌, ◌<◌, get_or, ap, arith}
+use Rattle.std.proofs.Common.{◌≡◌, ◌*◌, ◌/◌, ◌%◌, ◌^◌, get_or, arith}
 use Rattle.std.proofs.lemmas.Nat.{one_shl}
 use Rattle.signal.proofs.Sending.{put_fits, sent_one}
 use Rattle.signal.proofs.line.send.Goals as goal

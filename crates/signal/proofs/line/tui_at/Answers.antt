@@ -1,6 +1,6 @@
 -- The bit of the byte is the TUI.
-use Rattle.std.proofs.Common.{◌≡◌, ℕ, ◌/◌, ◌%◌, ◌^◌, ◌<◌, get_or, sym, ◌∙◌, arith}
-use lib.Bits.{and_mask, bit_and}
+use Rattle.std.proofs.Common.{◌/◌, ◌%◌, ◌^◌, get_or, sym, ◌∙◌, arith}
+use lib.Bits.{and_mask}
 use Rattle.signal.proofs.Bits.{get_d_bits, bits_past}
 use Rattle.signal.proofs.line.tui_at.Goals as goal
 

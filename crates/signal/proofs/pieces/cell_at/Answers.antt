@@ -1,5 +1,5 @@
 -- The two halves that were seen make the cell, and a cell has two such halves.
-use Rattle.std.proofs.Common.{◌≡◌, ℕ, ◌+◌, replicate, sym, ap, ◌∙◌, subst}
+use Rattle.std.proofs.Common.{ℕ, ◌+◌, replicate, sym, ap, ◌∙◌, subst}
 use Rattle.signal.specs.Signal.{bits_of, Stands, turned}
 use Rattle.signal.proofs.Seen.{cell_seen, cell_first, cell_second}
 use Rattle.signal.proofs.pieces.cell_at.Goals as goal

@@ -1,7 +1,6 @@
 -- One more bit at each turn, until the field is whole.
-use Rattle.std.proofs.Common.{◌≡◌, ℕ, ◌+◌, ◌*◌, ◌^◌, ◌<◌, ◌≤◌, length, refl, ap, pow-suc, add-one, arith}
+use Rattle.std.proofs.Common.{◌<◌, pow-suc, add-one, arith}
 use Rattle.signal.specs.Signal.{bits_of, cells, highest_first}
-use Rattle.signal.specs.Inner.{FieldAt}
 use Rattle.signal.proofs.Bits.{length_bits}
 use Rattle.signal.proofs.Carried.{carried_more}
 use Rattle.signal.proofs.pieces.field_at.Goals as goal

@@ -1,5 +1,5 @@
 -- The seed is the one at the start, and each later bit was compared with its sum.
-use Rattle.std.proofs.Common.{◌≡◌, ℕ, ◌+◌, ◌<◌, length, sym, ◌∙◌, arith}
+use Rattle.std.proofs.Common.{◌≡◌, ◌+◌, ◌<◌, length, sym, ◌∙◌, arith}
 use Rattle.signal.specs.Signal.{bits_of}
 use Rattle.signal.proofs.Bits.{length_bits}
 use Rattle.signal.proofs.Patterned.{seed_first, first_seed, one_seed, pattern_grows, sums_stand}

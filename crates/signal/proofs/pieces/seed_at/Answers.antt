@@ -1,5 +1,5 @@
 -- One more bit below those already seen.
-use Rattle.std.proofs.Common.{◌≡◌, ℕ, suc, ◌+◌, ◌-◌, ◌*◌, ◌^◌, ◌<◌, ◌≤◌, length, sym, ap, ◌∙◌, subst, pow-suc, arith}
+use Rattle.std.proofs.Common.{◌≡◌, ℕ, suc, ◌+◌, ◌-◌, ◌*◌, sym, subst, pow-suc, arith}
 use Rattle.signal.specs.Signal.{bits_of, least_first, Stands}
 use Rattle.signal.proofs.Bits.{length_bits}
 use Rattle.signal.proofs.Patterned.{least_more}

@@ -1,5 +1,5 @@
 -- One TUI of another level breaks it; when each was seen, the level has stayed.
-use Rattle.std.proofs.Common.{◌≡◌, ◌+◌, ◌≤◌, length, sym, ◌∙◌, arith}
+use Rattle.std.proofs.Common.{◌∙◌, arith}
 use Rattle.signal.specs.Signal.{bits_of}
 use Rattle.signal.proofs.Bits.{length_bits}
 use Rattle.signal.proofs.Standing.{level_stands, stands_level}

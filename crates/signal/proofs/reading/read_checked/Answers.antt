@@ -1,6 +1,6 @@
 -- Each answer with the checks that were passed before it.
-use Rattle.std.proofs.Common.{◌≡◌, ℕ, ◌+◌, ◌≤◌, length, sym, refl, ap, ◌∙◌, subst, arith}
-use Rattle.training.specs.Fields.{control_number, status_number}
+use Rattle.std.proofs.Common.{ℕ, sym, refl, subst, arith}
+use Rattle.training.specs.Fields.{control_number}
 use Rattle.signal.specs.Signal.{bits_of, Stands, front}
 use Rattle.signal.proofs.Bits.{length_bits}
 use Rattle.signal.proofs.SignalParts.{signal_seen}

@@ -1,5 +1,5 @@
 -- One more cell at each turn, until the field is sent whole.
-use Rattle.std.proofs.Common.{◌≡◌, ℕ, ◌+◌, ◌-◌, ◌*◌, ◌/◌, ◌^◌, ◌≤◌, List, ◌++◌, length, get_or, take, sym, ap, ◌∙◌, arith, take_all}
+use Rattle.std.proofs.Common.{◌≡◌, ℕ, ◌-◌, ◌/◌, ◌^◌, ◌≤◌, List, ◌++◌, length, get_or, take, ap, ◌∙◌, arith, take_all}
 use lib.Bits.{and_mask}
 use Rattle.signal.specs.Signal.{bits_of, cells, field}
 use Rattle.signal.proofs.Bits.{length_bits}

@@ -1,4 +1,4 @@
-use Rattle.std.proofs.Common.{◌≡◌, ℕ, ◌+◌, [], ◌∷◌, ◌++◌, take, replicate, ap, ◌∙◌, arith}
+use Rattle.std.proofs.Common.{◌≡◌, take, replicate, arith}
 use Rattle.std.proofs.lemmas.List.{replicate_more}
 use Rattle.signal.specs.Signal.{bits_of}
 use Rattle.signal.proofs.Sent.{sent_none, sent_more}

@@ -1,5 +1,5 @@
 -- One more bit of the pattern at each turn.
-use Rattle.std.proofs.Common.{◌≡◌, ℕ, ◌+◌, ◌-◌, ◌*◌, ◌/◌, ◌%◌, ◌^◌, ◌<◌, ◌≤◌, List, ◌++◌, length, get_or, take, sym, ap, ◌∙◌, arith}
+use Rattle.std.proofs.Common.{◌≡◌, ℕ, ◌+◌, ◌-◌, ◌/◌, ◌%◌, ◌^◌, ◌≤◌, length, get_or, sym, ap, ◌∙◌, arith}
 use lib.Bits.{and_mask}
 use Rattle.signal.specs.Signal.{bits_of, pattern, pattern_next}
 use Rattle.signal.proofs.Bits.{length_bits}

@@ -1,7 +1,7 @@
 -- The pieces that were sent make the signal.
-use Rattle.std.proofs.Common.{◌≡◌, ℕ, List, ◌++◌, length, sym, ap, ◌∙◌, arith}
+use Rattle.std.proofs.Common.{◌≡◌, ℕ, ◌++◌, length, ap, ◌∙◌, arith}
 use Rattle.signal.specs.Signal.{bits_of, front, back, signal}
-use Rattle.training.specs.Fields.{control_number, status_number}
+use Rattle.training.specs.Fields.{control_number}
 use Rattle.signal.proofs.Bits.{length_bits}
 use Rattle.signal.proofs.Whole.{whole}
 use Rattle.signal.proofs.writing.write.Goals as goal

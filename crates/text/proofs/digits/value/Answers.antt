@@ -1,7 +1,7 @@
 use Rattle.std.proofs.Common.{◌≡◌, ◌+◌, ◌*◌, ◌<◌, length, get_or, unwrap_or, arith}
 use Rattle.std.proofs.lemmas.List.Sums.{fold_more}
 use Rattle.std.proofs.lemmas.List.{take_all}
-use Rattle.text.specs.Text.{hex_digit, value}
+use Rattle.text.specs.Text.{hex_digit}
 use Rattle.text.proofs.Numbers.{digit_lt, value_room, value_more}
 use Rattle.text.proofs.digits.value.Goals as goal
 
