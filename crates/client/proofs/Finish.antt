@@ -1,8 +1,8 @@
 -- A session put together from its calls.
-use Rattle.std.proofs.Common.{◌≡◌, ℕ, ◌+◌, List, [], ◌∷◌, ◌++◌, length, sym, ap, ◌∙◌, subst, arith, length-append}
+use Rattle.std.proofs.Common.{◌≡◌, ℕ, ◌+◌, List, [], ◌∷◌, ◌++◌, length, sym, subst, arith, length-append}
 use Rattle.code.specs.Codes.{Model}
 use Rattle.port.specs.Runs.{Event, Reached, Extends}
-use Rattle.port.specs.Promise.{Counts, Promise, TotalsTrue}
+use Rattle.port.specs.Promise.{Promise}
 use Rattle.port.specs.declared.totals.Totals.{Totals}
 use Rattle.client.specs.Sessions.{Leads, Session}
 

@@ -1,9 +1,6 @@
 -- What the client's calls answer, in the words of the port's promise.
-use Rattle.std.specs.Prelude.{◌≡◌, ℕ, ◌+◌, ◌≤◌, List, ◌++◌, length}
-use Rattle.words.specs.declared.word.Word.{Word}
+use Rattle.std.specs.Prelude.{◌≡◌, ℕ, List, ◌++◌, length}
 use Rattle.code.specs.Codes.{Model}
-use Rattle.code.specs.Distance.{distance}
-use Rattle.port.specs.Calls.{line_of}
 use Rattle.port.specs.Runs.{Event, Reached}
 use Rattle.port.specs.Promise.{Counts}
 use Rattle.port.specs.declared.totals.Totals.{Totals}

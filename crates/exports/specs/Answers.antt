@@ -1,5 +1,5 @@
 -- What the calls for other languages answer, as numbers: a refusal is 1,000 plus its number.
-use Rattle.std.specs.Prelude.{◌≡◌, ℕ, ◌+◌, ◌%◌, ◌<◌, min, List, length, Ok, Err, Result, slice_index, slice_index_or}
+use Rattle.std.specs.Prelude.{◌≡◌, ℕ, ◌+◌, ◌<◌, min, List, length, Ok, Err, Result, slice_index, slice_index_or}
 use Rattle.words.specs.Raw.{body}
 use Rattle.words.specs.Words.{raw}
 use Rattle.words.specs.declared.word.Word.{Word}

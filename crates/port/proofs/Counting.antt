@@ -1,5 +1,5 @@
 -- The totals count every reading: an induction over the run.
-use Rattle.std.proofs.Common.{◌≡◌, ℕ, ◌+◌, Bool, true, false, cond, List, [], ◌∷◌, Ok, Err, Result, sym, refl, ap, ◌∙◌, arith}
+use Rattle.std.proofs.Common.{◌≡◌, ℕ, ◌+◌, true, cond, List, ◌∷◌, Ok, Err, Result, sym, refl, ap, ◌∙◌, arith}
 use Rattle.words.specs.declared.word.Word.{Word}
 use Rattle.blocks.specs.declared.refusal.BlockRefusal.{BlockRefusal}
 use Rattle.blocks.specs.declared.refusal.BlockRefusal.TheVariants.{NoControl, NoType, Unlisted}
@@ -7,9 +7,9 @@ use Rattle.messages.specs.declared.refusal.MessageRefusal.TheVariants as of_mess
 use Rattle.code.specs.Distance.{distance}
 use Rattle.code.specs.Codes.{Model}
 use Rattle.code.specs.declared.refusal.CodeRefusal.TheVariants as of_code
-use Rattle.port.specs.Calls.{line_of, Reads, ReadRefused, one_accepted, one_dropped}
+use Rattle.port.specs.Calls.{line_of, Reads, ReadRefused}
 use Rattle.port.specs.Runs.{Event, Reached, opened, wrote, has_read, asked, read}
-use Rattle.port.specs.Promise.{Counts, is_dropped, accepts, drops, mends}
+use Rattle.port.specs.Promise.{Counts, is_dropped}
 use Rattle.port.specs.declared.totals.Totals.{Totals}
 use Rattle.port.specs.declared.refusal.PortRefusal.{PortRefusal}
 use Rattle.port.specs.declared.refusal.PortRefusal.TheVariants.{Opening, Length, Full, Code, Message}

@@ -1,6 +1,5 @@
 -- The promise of the port, from the law of its code.
-use Rattle.std.proofs.Common.{◌≡◌, ℕ, ◌+◌, ◌*◌, ◌<◌, ◌≤◌, Bool, true, false, List, [], ◌∷◌, length, Ok, Err, Result, sym, refl, ap, ◌∙◌, subst, inl, inr, arith}
-use native.Mathlib.Decide.{dec_le}
+use Rattle.std.proofs.Common.{◌≡◌, ℕ, ◌+◌, ◌*◌, ◌<◌, ◌≤◌, true, false, List, length, Ok, Err, sym, refl, ap, ◌∙◌, subst, inl, inr, arith}
 use Rattle.std.proofs.lemmas.List.{length-map}
 use Rattle.std.proofs.lemmas.Bool.{cases_lt}
 use Rattle.symbols.specs.Symbols.{Message}
@@ -8,18 +7,16 @@ use Rattle.words.specs.Words.{raw, raws}
 use Rattle.words.specs.declared.word.Word.{Word}
 use Rattle.messages.specs.Messages.{MessageRead}
 use Rattle.messages.specs.Numbers.{message_of}
-use Rattle.messages.specs.declared.refusal.MessageRefusal.{MessageRefusal}
 use Rattle.messages.specs.declared.refusal.MessageRefusal.TheVariants as of_message
 use Rattle.messages.proofs.Alone.{has_message, no_other}
 use Rattle.code.specs.Distance.{distance}
 use Rattle.code.specs.Codes.{Model, Lawful, Near, Far}
 use Rattle.code.specs.declared.refusal.CodeRefusal.TheVariants as of_code
 use Rattle.code.specs.Once.{one_near}
-use Rattle.port.specs.Calls.{Sized, line_of, Written, Reads, ReadOk, Unreadable}
+use Rattle.port.specs.Calls.{line_of, Written, Reads}
 use Rattle.port.specs.Promise.{Answer, Judged, Eighty, Answered, Promise}
 use Rattle.port.proofs.Counting.{counted}
 use Rattle.port.specs.declared.totals.Totals.{Totals}
-use Rattle.port.specs.declared.refusal.PortRefusal.{PortRefusal}
 use Rattle.port.specs.declared.refusal.PortRefusal.TheVariants.{Opening, Length, Full, Code, Message as Unread}
 
 -- a judged refusal is 33 or that of a message

@@ -10,7 +10,6 @@ use Rattle.messages.specs.declared.refusal.MessageRefusal.{MessageRefusal}
 use Rattle.messages.specs.declared.refusal.MessageRefusal.TheVariants as of_message
 use Rattle.code.specs.Distance.{distance}
 use Rattle.code.specs.Codes.{Model, Near, Far}
-use Rattle.code.specs.declared.refusal.CodeRefusal.{CodeRefusal}
 use Rattle.code.specs.declared.refusal.CodeRefusal.TheVariants as of_code
 use Rattle.port.specs.Limits.{Room}
 use Rattle.port.specs.declared.totals.Totals.{Totals}

@@ -1,6 +1,5 @@
 -- For proofs: what the parts of a reading do before any total changes.
-use Rattle.std.specs.Prelude.{◌≡◌, ℕ, ◌≤◌, List, length, Ok, Err, Result}
-use Rattle.symbols.specs.Symbols.{Symbols}
+use Rattle.std.specs.Prelude.{◌≡◌, ℕ, ◌≤◌, List, Ok, Err, Result}
 use Rattle.words.specs.Words.{raws}
 use Rattle.words.specs.declared.word.Word.{Word}
 use Rattle.messages.specs.Messages.{MessageRead}

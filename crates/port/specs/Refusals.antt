@@ -1,5 +1,5 @@
 -- The number, the place and the block of each refusal of a port.
-use Rattle.std.specs.Prelude.{ℕ, Some, None, Option}
+use Rattle.std.specs.Prelude.{ℕ, None, Option}
 use Rattle.code.specs.Refusals as of_code
 use Rattle.messages.specs.Refusals as of_message
 use Rattle.port.specs.declared.refusal.PortRefusal.{PortRefusal}

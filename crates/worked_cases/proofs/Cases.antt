@@ -1,11 +1,10 @@
 -- All worked cases hold: most by computing, the blocks by the rules of their bits.
-use mathlib.Core.Path.{◌≡◌, refl, sym, ◌∙◌, subst}
+use mathlib.Core.Path.{◌≡◌, refl, sym, subst}
 use mathlib.Core.List.{List, [], ◌∷◌}
 use Prim.Native.Nat.{ℕ, ◌<◌}
-use native.Mathlib.Omega.{arith}
 use lib.Dec.{lit<, lit≤}
-use lib.ListN.{length, get_or, replicate}
-use Rattle.words.specs.Raw.{Raw, data_word, control_word, AllValid}
+use lib.ListN.{length, replicate}
+use Rattle.words.specs.Raw.{Raw, AllValid}
 use Rattle.blocks.specs.Blocks.{BlockOf}
 use Rattle.blocks.specs.Numbers.{block}
 use Rattle.blocks.specs.Reading.{read_block, refuses}
@@ -25,7 +24,7 @@ use Rattle.reed_solomon_algebra.proofs.Divides.{zeros_at}
 use Rattle.reed_solomon_algebra.proofs.Encodes.{word_of}
 use Rattle.symbols.specs.Symbols.{Message}
 use Rattle.signal.specs.Signal.{cell, cells, highest_first, pattern}
-use Rattle.worked_cases.specs.Cases.{Case, Holds, AllHold, OnlyBlock, RefusedWith, with_bits, cases}
+use Rattle.worked_cases.specs.Cases.{AllHold, OnlyBlock, RefusedWith, with_bits, cases}
 
 only_block : (ws : List Raw) (places : List ℕ) → length ws ≡ 4 → AllValid ws → block ws ≡ with_bits places → OnlyBlock ws (with_bits places)
 only_block ws places n v e =

@@ -1,5 +1,5 @@
-use Rattle.std.proofs.Common.{◌≡◌, [], ◌∷◌, ◌++◌, length, ◌∙◌, subst, arith}
-use Rattle.port.specs.Runs.{Event, read, write, Extends}
+use Rattle.std.proofs.Common.{◌≡◌, ◌∷◌, length, ◌∙◌, subst, arith}
+use Rattle.port.specs.Runs.{Event, read, Extends}
 use Rattle.client.proofs.Finish.{finish}
 use Rattle.client.proofs.session.Goals as goal
 

@@ -1,5 +1,5 @@
 -- The bodies so far are those of the words.
-use Rattle.std.proofs.Common.{◌≡◌, ℕ, ◌<◌, length, get_or}
+use Rattle.std.proofs.Common.{◌≡◌, ℕ, ◌<◌, get_or}
 use Rattle.words.specs.Raw.{body}
 use Rattle.words.specs.Words.{raw}
 use Rattle.words.specs.declared.word.Word.TheVariants.{Data}

@@ -1,4 +1,4 @@
-use Rattle.std.proofs.Common.{◌≡◌, sym, ◌∙◌, subst, arith, rules}
+use Rattle.std.proofs.Common.{sym, subst, rules}
 use Rattle.loopback.specs.Carried.{CarriedHome}
 use Rattle.loopback.proofs.Homes.{home}
 use Rattle.loopback.proofs.Journeys.{carried}

@@ -1,4 +1,4 @@
-use Rattle.std.proofs.Common.{◌≡◌, ◌<◌, length, get_or, set, sym, refl, ap, ◌∙◌, arith}
+use Rattle.std.proofs.Common.{◌<◌, length, get_or, set, refl, ap, ◌∙◌, arith}
 use lib.Bits.{bit_xor}
 use Rattle.loopback.specs.Damage.{flipped}
 use Rattle.loopback.proofs.Flips.{flipped_more}
