@@ -1,11 +1,11 @@
--- The bare code obeys the law. Scrambling over any code keeps it, and what a mending below it means above it.
+-- For proofs: the bare code obeys the law, the layers keep it, and what a mending below scrambling means above it.
 use Rattle.std.specs.Prelude.{◌≡◌, ℕ, List, length}
 use Rattle.std.proofs.Common.{sym, ap, ◌∙◌, subst, arith, rules}
 use Rattle.symbols.specs.Symbols.{Symbols}
 use Rattle.code.specs.Distance.{distance}
 use Rattle.code.specs.Codes.{Model, Lawful, Far, bare}
 use Rattle.code.specs.Calls.{Sized, MendedOk, MendRefused}
-use Rattle.code.specs.Layers.{with_key, scrambled}
+use Rattle.code.specs.Layers.{with_key, scrambled, off}
 use Rattle.code.specs.declared.refusal.CodeRefusal.{CodeRefusal}
 use Rattle.code.specs.declared.refusal.CodeRefusal.TheVariants.{Length, Symbol, NoCodeWord}
 use Rattle.code.specs.Metric.{distance_zero}
@@ -21,6 +21,16 @@ bare_lawful = record {
   long = λ x m. m.long;
   symbols = λ x m. m.symbols;
   apart = λ x y m k d. let z : distance x y ≡ 0 → x ≡ y = distance_zero x y (m.long ∙ sym k.long) in grind arith;
+}
+
+pub off_lawful : (m : Model) → Lawful m → Lawful (off m)
+off_lawful m law = record {
+  n_low = law.n_low;
+  n_high = law.n_high;
+  t_high = search rules;
+  long = law.long;
+  symbols = law.symbols;
+  apart = λ x y mx my d. let h = law.apart x y mx my d in omega arith;
 }
 
 pub scrambled_lawful : (m : Model) → Lawful m → Lawful (scrambled m)

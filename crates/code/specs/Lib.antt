@@ -1,4 +1,5 @@
 -- The meaning of codes. Begin with Codes; Calls says what the calls do, Layers what the layers make of a code.
+-- From Metric on stand lemmas: the law of each code is a member of its impl, and cites them.
 pub mod Distance
 pub mod Codes
 pub mod Refusals

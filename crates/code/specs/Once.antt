@@ -1,4 +1,4 @@
--- At most one code word is near a line, so a mending has one outcome.
+-- For proofs: at most one code word is near a line, so a mending has one outcome.
 use Rattle.std.specs.Prelude.{◌≡◌, ℕ, ◌+◌, ◌*◌, ◌<◌, ◌≤◌, List, Ok, Err, Result, refl}
 use Rattle.std.proofs.Common.{sym, ap, ◌∙◌, arith}
 use Rattle.symbols.specs.Symbols.{Symbols, FirstAbove}

@@ -1,4 +1,4 @@
--- Lists added symbol by symbol: their lengths, places and symbols, and that a list added twice is gone.
+-- For proofs: lists added symbol by symbol: their lengths, places and symbols, and that a list added twice is gone.
 use Rattle.std.specs.Prelude.{◌≡◌, ℕ, zero, suc, ◌+◌, ◌/◌, ◌%◌, ◌^◌, ◌<◌, List, [], ◌∷◌, length, bit_xor, slice_index, refl}
 use Rattle.std.proofs.Common.{sym, ap, ◌∙◌, arith, ext_get_or}
 use Rattle.std.proofs.lemmas.Nat.{xor_lt, xor_shr}

@@ -2,7 +2,7 @@
 ghost use Rattle.std.specs.Prelude.{◌≡◌};
 ghost use Rattle.code.specs.Calls.{Mended};
 ghost use Rattle.code.specs.Layers.{off, Exact};
-ghost use Rattle.std.proofs.Common.{rules};
+ghost use Rattle.code.specs.Layered.{off_lawful};
 
 use crate::interface::{Code, LONGEST_LINE, check_lengths};
 use crate::refusal::CodeRefusal;
@@ -18,7 +18,7 @@ pub struct CorrectionOff<C> {
 impl<C: Code> Code for CorrectionOff<C> {
     ghost model = { λ s. off (C.Code.model s.inner) };
 
-    ghost lawful = { Prim.search rules };
+    ghost lawful = { λ c. off_lawful (C.Code.model c.inner) (C.Code.lawful c.inner) };
 
     fn n(&self) -> usize {
         self.inner.n()

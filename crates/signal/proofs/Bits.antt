@@ -61,13 +61,13 @@ in_later b bs i h below =
     let r : i % 8 ≡ (i - 8) % 8 = omega arith in
     get_or-append_right (least_first 8 b) (bits_of bs) 8 i 0 (length_least 8 b) h ∙ below ∙ rw (q, r)
 
-pub get_d_bits : (bs : List ℕ) (i : ℕ) → get_or (bits_of bs) i 0 ≡ get_or bs (i / 8) 0 / 2 ^ (i % 8) % 2
+pub get_or_bits : (bs : List ℕ) (i : ℕ) → get_or (bits_of bs) i 0 ≡ get_or bs (i / 8) 0 / 2 ^ (i % 8) % 2
 unfolding bits_of
-get_d_bits [] i = ap (λ (y : ℕ). y % 2) (sym (zero-div (2 ^ (i % 8))))
-get_d_bits (b ∷ bs) i = elim (cases_lt i 8) [ inl h ↦ in_first b bs i h | inr h ↦ in_later b bs i h (get_d_bits bs (i - 8)) ]
+get_or_bits [] i = ap (λ (y : ℕ). y % 2) (sym (zero-div (2 ^ (i % 8))))
+get_or_bits (b ∷ bs) i = elim (cases_lt i 8) [ inl h ↦ in_first b bs i h | inr h ↦ in_later b bs i h (get_or_bits bs (i - 8)) ]
 
 pub bit_below : (bs : List ℕ) (i : ℕ) → get_or (bits_of bs) i 0 < 2
-bit_below bs i = let e = get_d_bits bs i in omega arith
+bit_below bs i = let e = get_or_bits bs i in omega arith
 
 pub bits_past : (bs : List ℕ) (i : ℕ) → length bs ≤ i / 8 → get_or (bits_of bs) i 0 ≡ 0
 bits_past bs i h = get_or_past (bits_of bs) i 0 (omega (arith, length_bits bs))

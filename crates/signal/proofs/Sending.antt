@@ -5,7 +5,7 @@ use Rattle.std.proofs.lemmas.Nat.{field_of, shr_high, mod_low}
 use Rattle.std.proofs.lemmas.List.{get_or-set_same, get_or-set_other, take_more}
 use Rattle.std.proofs.lemmas.Bool.{cases_eq}
 use Rattle.signal.specs.Signal.{bits_of}
-use Rattle.signal.proofs.Bits.{take_same, length_bits, get_d_bits}
+use Rattle.signal.proofs.Bits.{take_same, length_bits, get_or_bits}
 
 -- the bits below bit k, with bit k put above them
 abbrev pub put : ℕ → ℕ → ℕ → ℕ
@@ -56,7 +56,7 @@ module _ (bs : List ℕ) (i v : ℕ) (h : i < 8 * length bs) where
   in_bytes = omega arith
 
   earlier_one : (k : ℕ) → k < i → get_or (bits_of after) k 0 ≡ get_or (bits_of bs) k 0
-  earlier_one k l = get_d_bits after k ∙ elim (cases_eq (k / 8) (i / 8)) [ inl e ↦ in_byte k l e | inr d ↦ in_other k d ] ∙ sym (get_d_bits bs k)
+  earlier_one k l = get_or_bits after k ∙ elim (cases_eq (k / 8) (i / 8)) [ inl e ↦ in_byte k l e | inr d ↦ in_other k d ] ∙ sym (get_or_bits bs k)
     where
       in_byte : (k : ℕ) → k < i → k / 8 ≡ i / 8 → get_or after (k / 8) 0 / 2 ^ (k % 8) % 2 ≡ get_or bs (k / 8) 0 / 2 ^ (k % 8) % 2
       in_byte k l e =
@@ -73,6 +73,6 @@ module _ (bs : List ℕ) (i v : ℕ) (h : i < 8 * length bs) where
       let long : length after ≡ length bs = length-set bs (i / 8) byte in
       let room : i < length (bits_of after) = omega (arith, length_bits after) in
       let before : i ≤ length (bits_of bs) = omega (arith, length_bits bs) in
-      let here : get_or (bits_of after) i 0 ≡ v = get_d_bits after i ∙ ap (λ (y : ℕ). y / 2 ^ (i % 8) % 2) (get_or-set_same bs (i / 8) byte 0 in_bytes) ∙ put_at (get_or bs (i / 8) 0) (i % 8) v l in
+      let here : get_or (bits_of after) i 0 ≡ v = get_or_bits after i ∙ ap (λ (y : ℕ). y / 2 ^ (i % 8) % 2) (get_or-set_same bs (i / 8) byte 0 in_bytes) ∙ put_at (get_or bs (i / 8) 0) (i % 8) v l in
       let earlier = take_same (bits_of after) (bits_of bs) i (omega arith) before earlier_one in
       take_more (bits_of after) i 0 room ∙ ap (λ (xs : List ℕ). xs ++ get_or (bits_of after) i 0 ∷ []) earlier ∙ ap (λ (y : ℕ). take i (bits_of bs) ++ y ∷ []) here
