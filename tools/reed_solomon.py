@@ -90,7 +90,7 @@ def words():
         message = made(seed)
         line = message + parity(message)
         verdicts.append([verdict(spoiled(line, seed, errors)) for errors in (1, 4, 7, 8, 9, 12)])
-    print(rust("Of each seed's line with 1, 4, 7, 8, 9 and 12 errors: how many symbols are wrong, or the refusal 33.", "VERDICTS", "[[usize; 6]; 12]", verdicts))
+    print(rust("Of each seed's line with 1, 4, 7, 8, 9 and 12 errors: how many symbols are wrong, or that no code word is near enough.", "VERDICTS", "[[Option<usize>; 6]; 12]", verdicts))
 
 
 def turn(state):
@@ -169,12 +169,10 @@ def mend(line):
     return result if sum(a != b for a, b in zip(result, line)) <= T else None
 
 
-REFUSED = 33
-
-
 def verdict(line):
+    """How many symbols are wrong, or that no code word is near enough, as Rattle's Option."""
     word = mend(line)
-    return REFUSED if word is None else sum(a != b for a, b in zip(word, line))
+    return "None" if word is None else f"Some({sum(a != b for a, b in zip(word, line))})"
 
 
 if __name__ == "__main__":

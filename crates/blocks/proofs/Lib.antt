@@ -8,8 +8,6 @@ pub mod Places
 pub mod Unique
 pub mod Refused
 pub mod Once
-pub mod Fours
 pub mod Packing
-pub mod Opens
 pub mod Readings
 pub mod Promised

@@ -4,5 +4,6 @@ pub mod Blocks
 pub mod Numbers
 pub mod Reading
 pub mod Packed
+pub mod Widths
 pub mod Filling
 pub mod Taking

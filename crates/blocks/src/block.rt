@@ -4,6 +4,9 @@ ghost use Rattle.blocks.specs.Packed.{packed};
 
 use std::fmt;
 
+// What a limb counts: it has 64 bits.
+pub(crate) const LIMB: u128 = 0x1_0000_0000_0000_0000;
+
 // The bits in words of 64, the lowest first: limb 4 holds bit 256 alone.
 #[derive(Clone, Copy, PartialEq, Eq, Debug, Drop)]
 pub struct Block {
@@ -16,13 +19,10 @@ impl Block {
     pub fn new(limbs: [u64; 5]) -> Option<Block>
         ensures { MatchOption result (2 ≤ slice_index limbs 4) (λ b. b.limbs ≡ limbs) }
     {
-        let [a, b, c, d, e] = limbs;
-        if e > 1 {
+        if limbs[4] > 1 {
             return None;
         }
-        Some(Block {
-            limbs: [a, b, c, d, e],
-        })
+        Some(Block { limbs })
     }
 }
 

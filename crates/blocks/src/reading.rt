@@ -1,43 +1,18 @@
 // The words of a block.
-ghost use Rattle.std.specs.Prelude.{◌≡◌, ◌+◌, ◌*◌, ◌%◌, ◌^◌, ◌<◌, MatchOption};
+ghost use Rattle.std.specs.Prelude.{◌≡◌, ◌+◌, ◌*◌, ◌/◌, ◌%◌, ◌^◌, ◌<◌, MatchOption};
 ghost use Rattle.blocks.specs.Packed.{packed};
 ghost use Rattle.blocks.specs.Blocks.{BlockRead, ReadsBack};
 ghost use Rattle.blocks.specs.Numbers.{restored as restored_body};
 ghost use Rattle.blocks.specs.Reading.{told, read_block};
-ghost use Rattle.blocks.specs.Taking.{room, Taken, Started};
+ghost use Rattle.blocks.specs.Widths.{room};
 
-use crate::block::Block;
+use crate::block::{Block, LIMB};
 use crate::refusal::BlockRefusal;
 use words::control::ControlBody;
 use words::word::{Word, high_nibble, is_listed};
 
-const LIMB: u128 = 0x1_0000_0000_0000_0000;
-
 // A body without its cut nibble has 60 bits.
 const KEPT: u128 = 0x1000_0000_0000_0000;
-
-// What limb 0 holds above bit 0, or above the marks; the marks; and whether a nibble is still to be restored.
-fn start(low: u64) -> (u128, u64, bool)
-    ensures { Started low result.0 result.1 result.2 }
-{
-    if low % 2 == 1 {
-        ((low / 2) as u128, 15, false)
-    } else {
-        ((low / 32) as u128, low / 2 % 16, true)
-    }
-}
-
-fn joined(acc: u128, limb: u64, cut: bool) -> u128
-    requires { acc < room cut }
-    ensures value { result ≡ acc + room cut * limb }
-    ensures bound { result < 2 ^ 64 * room cut }
-{
-    if cut {
-        acc + limb as u128 * 0x800_0000_0000_0000
-    } else {
-        acc + limb as u128 * 0x8000_0000_0000_0000
-    }
-}
 
 // The body of which these 60 bits were kept; none where the kept nibble is 0.
 fn restored(kept: u64) -> Option<ControlBody>
@@ -52,40 +27,85 @@ fn restored(kept: u64) -> Option<ControlBody>
     Some(ControlBody { body })
 }
 
-fn take_word(acc: u128, marks: u64, cut: bool, j: usize) -> Result<(Word, u128, bool), BlockRefusal>
-    requires { acc < 2 ^ 64 * room cut }
-    ensures { Taken acc marks j cut result }
-{
-    if marks % 2 == 1 {
-        return Ok((Word::Data((acc % LIMB) as u64), acc / LIMB, cut));
+// What is still to be read of a block: the bits that are left of the limbs so far, the marks of the words to come, and
+// whether the first control word, whose body lacks a nibble, is one of these.
+#[derive(Drop)]
+struct Reader {
+    acc: u128,
+    marks: u64,
+    cut: bool,
+    ghost fits: { acc < room cut },
+}
+
+impl Reader {
+    ghost use Rattle.blocks.specs.Taking.{Taken, Started};
+
+    // Limb 0 has bit 0 below the bodies, or bit 0 and the marks.
+    fn new(low: u64) -> Reader
+        ensures { Started low result }
+    {
+        if low % 2 == 1 {
+            return Reader {
+                acc: (low / 2) as u128,
+                marks: 15,
+                cut: false,
+            };
+        }
+        Reader {
+            acc: (low / 32) as u128,
+            marks: low / 2 % 16,
+            cut: true,
+        }
     }
-    if cut {
-        return match restored((acc % KEPT) as u64) {
-            Some(control) => Ok((Word::Control(control), acc / KEPT, false)),
-            None => Err(BlockRefusal::NoType { word: j }),
-        };
+
+    // The bits that are left, and the next limb above them.
+    fn joined(&self, limb: u64) -> u128
+        ensures value { result ≡ self.now.acc + room self.now.cut * limb }
+        ensures bound { result < 2 ^ 64 * room self.now.cut }
+    {
+        if self.cut {
+            self.acc + limb as u128 * 0x800_0000_0000_0000
+        } else {
+            self.acc + limb as u128 * 0x8000_0000_0000_0000
+        }
     }
-    if is_listed((acc % 256) as u8) {
-        let body = (acc % LIMB) as u64;
-        return Ok((Word::Control(ControlBody { body }), acc / LIMB, false));
+
+    // The next word, number j of its group: it ends in the next limb.
+    fn take(&mut self, limb: u64, j: usize) -> Result<Word, BlockRefusal>
+        ensures { Taken self.old limb j self.new result }
+    {
+        let bits = self.joined(limb);
+        let marks = self.marks;
+        self.marks /= 2;
+        if marks % 2 == 1 {
+            self.acc = bits / LIMB;
+            return Ok(Word::Data((bits % LIMB) as u64));
+        }
+        if self.cut {
+            let control = restored((bits % KEPT) as u64).ok_or(BlockRefusal::NoType { word: j })?;
+            self.acc = bits / KEPT;
+            self.cut = false;
+            return Ok(Word::Control(control));
+        }
+        if !is_listed((bits % 256) as u8) {
+            return Err(BlockRefusal::Unlisted { word: j });
+        }
+        self.acc = bits / LIMB;
+        let body = (bits % LIMB) as u64;
+        Ok(Word::Control(ControlBody { body }))
     }
-    Err(BlockRefusal::Unlisted { word: j })
 }
 
 fn words_of(block: &Block) -> Result<[Word; 4], BlockRefusal>
     ensures { told result ≡ read_block (packed 64 block.now.limbs) }
 {
-    let (mut acc, mut marks, mut cut) = start(block.limbs[0]);
+    let mut reader = Reader::new(block.limbs[0]);
     let mut words = [Word::Data(0); 4];
-    for j in 0..4 {
-        let limb = block.limbs[j + 1];
-        let (word, left, next) = take_word(joined(acc, limb, cut), marks, cut, j)?;
-        words[j] = word;
-        acc = left;
-        cut = next;
-        marks /= 2;
+    // By place, which a refusal names, as in the loop that fills a block.
+    for (j, limb) in block.limbs[1..].iter().enumerate() {
+        words[j] = reader.take(*limb, j)?;
     }
-    if cut {
+    if reader.cut {
         return Err(BlockRefusal::NoControl);
     }
     Ok(words)

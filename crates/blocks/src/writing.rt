@@ -1,17 +1,15 @@
 // The block of four words.
-ghost use Rattle.std.specs.Prelude.{◌≡◌, ◌<◌, [], ◌∷◌};
+ghost use Rattle.std.specs.Prelude.{◌≡◌, ◌^◌, ◌<◌, [], ◌∷◌};
 ghost use Rattle.words.specs.Types.{LowNibbleTellsType};
 ghost use Rattle.words.specs.Raw.{mark as mark_of, AllValid};
 ghost use Rattle.words.specs.Words.{raw, raws};
 ghost use Rattle.blocks.specs.Blocks.{BlockOf};
-ghost use Rattle.blocks.specs.Numbers.{marks as marks_of, block as block_number};
+ghost use Rattle.blocks.specs.Numbers.{marks as marks_of, kept as kept_of, block as block_number};
 ghost use Rattle.blocks.specs.Packed.{packed};
-ghost use Rattle.blocks.specs.Filling.{Placed, Opened};
+ghost use Rattle.blocks.specs.Widths.{weight};
 
-use crate::block::Block;
+use crate::block::{Block, LIMB};
 use words::word::Word;
-
-const LIMB: u128 = 0x1_0000_0000_0000_0000;
 
 fn mark(word: Word) -> u128
     ensures { result ≡ mark_of (raw word) }
@@ -26,42 +24,69 @@ fn marks(words: &[Word; 4]) -> u128
     ensures value { result ≡ marks_of (raws words.now) }
     ensures bound { result < 16 }
 {
-    mark(words[0]) + 2 * mark(words[1]) + 4 * mark(words[2]) + 8 * mark(words[3])
+    let [a, b, c, d] = *words;
+    mark(a) + 2 * (mark(b) + 2 * (mark(c) + 2 * mark(d)))
 }
 
-// Bit 0 and the marks, or bit 0 alone, and whether a nibble is still to be cut out.
-fn opening(words: &[Word; 4]) -> (u128, bool)
-    ensures { Opened (raws words.now) result.0 result.1 }
+// A body without the high nibble of its type has 60 bits.
+fn kept(body: u64) -> u64
+    ensures value { result ≡ kept_of body }
+    ensures bound { result < 2 ^ 60 }
 {
-    let marked = marks(words);
-    if marked == 15 {
-        (1, false)
-    } else {
-        (2 * marked, true)
+    body % 16 + body / 256 * 16
+}
+
+// What is written of a block: the bits that wait above the limbs that are full, and whether a nibble is still to be cut
+// out of a body.
+#[derive(Drop)]
+struct Writer {
+    acc: u128,
+    cutting: bool,
+    ghost fits: { acc < weight cutting },
+}
+
+impl Writer {
+    ghost use Rattle.blocks.specs.Filling.{Placed, Put, Opened};
+
+    // Bit 0 and the marks wait, or bit 0 alone.
+    fn new(words: &[Word; 4]) -> Writer
+        ensures { Opened (raws words.now) result }
+    {
+        let marked = marks(words);
+        if marked == 15 {
+            Writer {
+                acc: 1,
+                cutting: false,
+            }
+        } else {
+            Writer {
+                acc: 2 * marked,
+                cutting: true,
+            }
+        }
     }
-}
 
-// What the word adds above the bits that wait, and whether a nibble is still to be cut out after it.
-// A cut body has 60 bits, and 5 + 60 is 64 + 1: so both ways a word moves on by one limb.
-fn placed(word: Word, cutting: bool) -> (u128, bool)
-    ensures { Placed (raw word) cutting result.0 result.1 }
-{
-    match word {
-        Word::Data(body) => {
-            if cutting {
-                (body as u128 * 32, true)
-            } else {
-                (body as u128 * 2, false)
-            }
+    // What the word adds above the bits that wait.
+    // A cut body has 60 bits, and 5 + 60 is 64 + 1: so both ways a word moves on by one limb.
+    fn placed(&self, word: Word) -> u128
+        ensures { Placed (raw word) self.now.cutting result }
+    {
+        match (word, self.cutting) {
+            (Word::Data(body), true) => body as u128 * 32,
+            (Word::Data(body), false) => body as u128 * 2,
+            (Word::Control(control), true) => kept(control.body) as u128 * 32,
+            (Word::Control(control), false) => control.body as u128 * 2,
         }
-        Word::Control(control) => {
-            let body = control.body;
-            if cutting {
-                ((body % 16 + body / 256 * 16) as u128 * 32, false)
-            } else {
-                (body as u128 * 2, false)
-            }
-        }
+    }
+
+    // The next limb: it is full once the word is placed.
+    fn put(&mut self, word: Word) -> u64
+        ensures { Put (raw word) self.old result self.new }
+    {
+        let bits = self.acc + self.placed(word);
+        self.cutting = self.cutting && matches!(word, Word::Data(_));
+        self.acc = bits / LIMB;
+        (bits % LIMB) as u64
     }
 }
 
@@ -69,16 +94,13 @@ fn filled(words: &[Word; 4]) -> Block
     ensures value { packed 64 result.limbs ≡ block_number (raws words.now) }
     ensures valid { AllValid (raws words.now) }
 {
-    let (mut acc, mut cutting) = opening(words);
+    let mut writer = Writer::new(words);
     let mut limbs = [0; 5];
-    for j in 0..4 {
-        let (bits, next) = placed(words[j], cutting);
-        acc += bits;
-        cutting = next;
-        limbs[j] = (acc % LIMB) as u64;
-        acc /= LIMB;
+    // By place: after a loop over `limbs.iter_mut().zip(words)` no proof knows what was written.
+    for (j, word) in words.iter().enumerate() {
+        limbs[j] = writer.put(*word);
     }
-    limbs[4] = acc as u64;
+    limbs[4] = writer.acc as u64;
     Block { limbs }
 }
 

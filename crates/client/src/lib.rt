@@ -26,7 +26,7 @@ pub fn session<C: Code + Drop>(
 {
     let mut port = Port::open(code, opening)?;
     let _ = port.write(words, line);
-    for _i in 0..readings {
+    for _ in 0..readings {
         let _ = port.read(line, words);
     }
     Ok(port.totals())
@@ -41,11 +41,5 @@ pub fn link_session(
 ) -> Result<Totals, PortRefusal>
     ensures { MatchResult result (λ a. Session (scrambled (reed_solomon_code 7)) opening (readings + 1) a) (λ e. e ≡ PortRefusal.Opening) }
 {
-    session(
-        Scrambled { inner: ReedSolomon },
-        opening,
-        words,
-        line,
-        readings,
-    )
+    session(Scrambled::over(ReedSolomon), opening, words, line, readings)
 }

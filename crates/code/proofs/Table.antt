@@ -1,7 +1,11 @@
 -- The table of the key, by one test that follows the sequence through it.
-use Rattle.std.proofs.Common.{◌≡◌, ℕ, zero, suc, ◌+◌, ◌*◌, ◌%◌, ◌<◌, Bool, true, false, T, eqb, List, [], ◌∷◌, length, get_or, sym, refl, ap, ◌∙◌, subst, le_of_suc-le-suc, not-suc-le-zero, add-one, arith, eqb→eq}
-use Rattle.code.specs.Entries.{Entry}
+use Rattle.std.proofs.Common.{◌≡◌, ℕ, zero, suc, ◌+◌, ◌*◌, ◌%◌, ◌<◌, ◌≤◌, Bool, true, false, T, eqb, List, [], ◌∷◌, length, get_or, sym, refl, ap, ◌∙◌, subst, le_of_suc-le-suc, not-suc-le-zero, add-one, arith, eqb→eq}
+use lib.Bits.{bit_xor}
+use Rattle.code.specs.Distance.{plus}
+use Rattle.code.specs.Layers.{keys, with_key}
 use Rattle.code.specs.Sequence.{history, gathered, key}
+use Rattle.code.specs.Scrambling.{length_keys, get_or_keys}
+use Rattle.code.specs.Sums.{length_plus, get_or_plus, plus_by_places}
 
 abbrev both : Bool → Bool → Bool
 both true b = b
@@ -55,6 +59,10 @@ follows_at (x ∷ xs) s t (suc i) h =
     follows_at xs (suc s) (subst (λ k. T (follows k xs)) (grown_is 10 (10 * s) ∙ ap history e) rest) i (le_of_suc-le-suc h)
     ∙ ap key (omega arith)
 
--- a table that passes the test from bit 0 on holds the key
-pub table_at : (table : List ℕ) (place x : ℕ) → Entry table place x → T (follows (history 0) table) → place < length table → x ≡ key place
-table_at table place x e t h = e.is ∙ follows_at table 0 t place h ∙ ap key (omega arith)
+-- a table that passes the test from bit 0 on is the key: adding it is adding the key
+pub key_added : (table line line' : List ℕ) → T (follows (history 0) table) → length line ≤ length table → line' ≡ plus line table → line' ≡ with_key line
+key_added table line line' t h e =
+    let n = length line in
+    e ∙ plus_by_places line (keys n) (plus line table) (length_plus line table) (omega (arith, length_keys n))
+    (λ i b. get_or_plus line table i b (omega arith)
+    ∙ ap (bit_xor (get_or line i 0)) (follows_at table 0 t i (omega arith) ∙ ap key (omega arith) ∙ sym (get_or_keys n i b)))

@@ -7,7 +7,6 @@ pub mod Calls
 pub mod Sequence
 pub mod Layers
 pub mod Copies
-pub mod Entries
 pub mod Metric
 pub mod Layered
 pub mod Once

@@ -1,7 +1,8 @@
--- For proofs: the laws of the distance, and how a loop counts it.
-use Rattle.std.specs.Prelude.{◌≡◌, ℕ, ◌+◌, ◌<◌, ◌≤◌, cond, List, [], ◌∷◌, length, drop, ◌==◌, bit_xor, slice_index, refl}
+-- For proofs: the laws of the distance, and how it is counted.
+use Rattle.std.specs.Prelude.{◌≡◌, ℕ, ◌+◌, ◌<◌, ◌≤◌, cond, List, [], ◌∷◌, length, drop, not, ◌==◌, bit_xor, slice_index, refl}
 use Rattle.std.proofs.Common.{sym, ap, ◌∙◌, arith}
 use Rattle.std.specs.Int.Bits.{xor_assoc, xor_self, xor_zero_r}
+use Rattle.std.specs.List.{filter, zip}
 use Rattle.std.proofs.lemmas.List.{drop_more, drop_all}
 use Rattle.std.proofs.lemmas.Bool.Decides.{nat_tests}
 use Rattle.code.specs.Distance.{distance, plus, DistanceLaws}
@@ -64,6 +65,13 @@ distance_laws = record {
   triangle = distance_triangle;
   sum_unmoved = distance_plus;
 }
+
+-- the pairs whose numbers differ, counted
+pub distance_count : (x y : List ℕ) → length (filter (λ (p : ℕ × ℕ). not (p.0 == p.1)) (zip x y)) ≡ distance x y
+unfolding distance
+distance_count [] y = refl
+distance_count (a ∷ x) [] = refl
+distance_count (a ∷ x) (b ∷ y) = let i = distance_count x y in grind (arith, nat_tests)
 
 -- one more place that differs, or does not
 pub distance_more : (x y : List ℕ) (i : ℕ) → i < length x → i < length y

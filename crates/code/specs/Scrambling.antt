@@ -8,7 +8,7 @@ use Rattle.code.specs.Layers.{keys, with_key, KeyLaws}
 use Rattle.code.specs.Sequence.{key, sequence}
 use Rattle.code.specs.Metric.{distance_plus}
 use Rattle.code.specs.Recur.{sequence_laws}
-use Rattle.code.specs.Sums.{length_plus, plus_twice, plus_symbols, get_or_plus, plus_by_places, xor_bit}
+use Rattle.code.specs.Sums.{length_plus, plus_twice, plus_symbols, plus_by_places, get_or_plus, xor_bit}
 
 pub length_keys : (n : ℕ) → length (keys n) ≡ n
 unfolding keys
@@ -27,7 +27,7 @@ length_with_key x = length_plus x (keys (length x))
 -- a line that had the key added place by place
 pub with_key_by_places : (x z : List ℕ) → length z ≡ length x → ((i : ℕ) → i < length x → slice_index z i ≡ bit_xor (slice_index x i) (key i)) → z ≡ with_key x
 with_key_by_places x z l p =
-    plus_by_places x (keys (length x)) z l (length_keys (length x))
+    plus_by_places x (keys (length x)) z l (omega (arith, length_keys (length x)))
     (λ i h. p i h ∙ ap (bit_xor (slice_index x i)) (sym (get_or_keys (length x) i h)))
 
 with_key_twice : (x : List ℕ) → with_key (with_key x) ≡ x

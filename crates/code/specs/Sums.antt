@@ -1,5 +1,5 @@
 -- For proofs: lists added symbol by symbol: their lengths, places and symbols, and that a list added twice is gone.
-use Rattle.std.specs.Prelude.{◌≡◌, ℕ, zero, suc, ◌+◌, ◌/◌, ◌%◌, ◌^◌, ◌<◌, List, [], ◌∷◌, length, bit_xor, slice_index, refl}
+use Rattle.std.specs.Prelude.{◌≡◌, ℕ, zero, suc, ◌+◌, ◌/◌, ◌%◌, ◌^◌, ◌<◌, ◌≤◌, List, [], ◌∷◌, length, bit_xor, slice_index, refl}
 use Rattle.std.proofs.Common.{sym, ap, ◌∙◌, arith, ext_get_or}
 use Rattle.std.proofs.lemmas.Nat.{xor_lt, xor_shr}
 use Rattle.std.specs.Int.Bits.{xor_add_and}
@@ -34,7 +34,7 @@ plus_symbols x y l s u i h =
     omega arith
 
 -- a list that was added to place by place
-pub plus_by_places : (x y z : List ℕ) → length z ≡ length x → length y ≡ length x → ((i : ℕ) → i < length x → slice_index z i ≡ bit_xor (slice_index x i) (slice_index y i)) → z ≡ plus x y
+pub plus_by_places : (x y z : List ℕ) → length z ≡ length x → length x ≤ length y → ((i : ℕ) → i < length x → slice_index z i ≡ bit_xor (slice_index x i) (slice_index y i)) → z ≡ plus x y
 plus_by_places x y z l k p =
     ext_get_or 0 z (plus x y) (l ∙ sym (length_plus x y)) (λ i b. p i (omega arith) ∙ sym (get_or_plus x y i (omega arith) (omega arith)))
 

@@ -9,11 +9,5 @@ pub fn distance(a: &[u16], b: &[u16]) -> Option<usize>
     if a.len() != b.len() {
         return None;
     }
-    let mut differing = 0;
-    for (i, x) in a.iter().enumerate() {
-        if *x != b[i] {
-            differing += 1;
-        }
-    }
-    Some(differing)
+    Some(a.iter().zip(b).filter(|(x, y)| x != y).count())
 }

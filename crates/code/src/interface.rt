@@ -49,8 +49,5 @@ pub fn check_lengths(n: usize, message: &[u16], line: &[u16]) -> Result<(), Code
 pub fn check_symbols(list: &[u16]) -> Result<(), CodeRefusal>
     ensures { SymbolsChecked list.now result }
 {
-    match first_above(list) {
-        Some(place) => Err(CodeRefusal::Symbol { place }),
-        None => Ok(()),
-    }
+    first_above(list).map_or(Ok(()), |place| Err(CodeRefusal::Symbol { place }))
 }

@@ -1,28 +1,23 @@
 // The key of the scrambler: the scrambling sequence cut into symbols.
-ghost use Rattle.std.specs.Prelude.{◌≡◌, ◌<◌, ◌≤◌, length};
+ghost use Rattle.std.specs.Prelude.{◌≡◌, ◌≤◌, length};
 ghost use Rattle.code.specs.Codes.{longest_line};
-ghost use Rattle.code.specs.Entries.{Entry};
+ghost use Rattle.code.specs.Distance.{plus};
 ghost use Rattle.code.specs.Layers.{with_key, KeyLaws, ScrambledLine};
-ghost use Rattle.code.specs.Sequence.{SequenceLaws, key as key_symbol};
+ghost use Rattle.code.specs.Sequence.{SequenceLaws};
 
 use crate::interface::LONGEST_LINE;
 use crate::key_table::KEY;
 use crate::refusal::CodeRefusal;
 
-// The entry of a table at a place.
-fn entry(table: &[u16], place: usize) -> u16
-    requires { place < length table.now }
-    ensures { Entry table.now place result }
+// Adds a list to a line, symbol by symbol.
+fn add(line: &mut [u16], list: &[u16])
+    requires { length line.old ≤ length list.now }
+    ensures { line.new ≡ plus line.old list.now }
 {
-    table[place]
-}
-
-// The symbol of the key for a place that a line can have.
-fn key_at(place: usize) -> u16
-    requires { place < longest_line }
-    ensures { result ≡ key_symbol place }
-{
-    entry(&KEY, place)
+    // By place: after a loop over `line.iter_mut().zip(list)` no proof knows what was written.
+    for (i, symbol) in line.iter_mut().enumerate() {
+        *symbol ^= list[i];
+    }
 }
 
 // Adds the key to a line.
@@ -30,9 +25,7 @@ pub(crate) fn add_key(line: &mut [u16])
     requires { length line.old ≤ longest_line }
     ensures { line.new ≡ with_key line.old }
 {
-    for i in 0..line.len() {
-        line[i] ^= key_at(i);
-    }
+    add(line, &KEY);
 }
 
 // Scrambles a line, and a scrambled line back; refuses a list that is longer than any line.

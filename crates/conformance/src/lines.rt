@@ -4,21 +4,21 @@ use messages::reading::from_message;
 use messages::refusal::MessageRefusal;
 use messages::writing::to_message;
 use numbered_refusal::Refusal;
+use std::array;
 use std::test::Fail;
+use words::refusal::WordRefusal;
 use words::word::Word;
 
 // Eighty words of many kinds: word i is a control word where bit i % 7 of `pattern` is 1.
-pub fn mixed(pattern: u8) -> Result<[Word; 80], Fail> {
-    let mut words = [Word::Data(0); 80];
-    for (i, word) in words.iter_mut().enumerate() {
+fn mixed(pattern: u8) -> Result<[Word; 80], WordRefusal> {
+    array::try_from_fn(|i| {
         let body = (i as u64).wrapping_mul(0x9e37_79b9_7f4a_7c15);
-        *word = if pattern >> (i % 7) & 1 == 1 {
-            Word::new(1, body & 0xffff_ffff_ffff_ff00 | 0xd2)?
+        if pattern >> (i % 7) & 1 == 1 {
+            Word::new(1, body & 0xffff_ffff_ffff_ff00 | 0xd2)
         } else {
-            Word::Data(body)
-        };
-    }
-    Ok(words)
+            Ok(Word::Data(body))
+        }
+    })
 }
 
 #[test]

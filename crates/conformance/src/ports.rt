@@ -13,6 +13,7 @@ use reed_solomon::codec::ReedSolomon;
 use std::test::Fail;
 use words::word::Word;
 
+// The largest total: written out here, since a limit taken from port would try port on itself.
 const LIMIT: u64 = 1 << 40;
 
 fn totals(accepted: u64, dropped: u64, mended: u64) -> Totals {
@@ -65,8 +66,15 @@ fn leaves_room_for_seven(rt: HostRuntime) {
     }
 }
 
-// What reading a written line answers once `flip` was added to the symbol at `place`, and the totals then.
-fn spoilt(place: usize, flip: u16) -> Result<(Result<(), PortRefusal>, Totals), PortRefusal> {
+// How one reading ended: its answer, and the totals then.
+#[derive(Clone, Copy, PartialEq, Debug)]
+struct Ending {
+    answer: Result<(), PortRefusal>,
+    totals: Totals,
+}
+
+// How the reading of a written line ends once `flip` was added to the symbol at `place`.
+fn spoilt(place: usize, flip: u16) -> Result<Ending, PortRefusal> {
     let mut port = Port::open(
         CorrectionOff {
             inner: Scrambled { inner: Bare },
@@ -76,11 +84,14 @@ fn spoilt(place: usize, flip: u16) -> Result<(Result<(), PortRefusal>, Totals), 
     let mut words = [Word::Data(0); 80];
     let mut line = [0u16; 514];
     port.write(&words, &mut line)?;
-    if place < 514 {
-        line[place] ^= flip;
+    if let Some(symbol) = line.get_mut(place) {
+        *symbol ^= flip;
     }
     let answer = port.read(&mut line, &mut words);
-    Ok((answer, port.totals()))
+    Ok(Ending {
+        answer,
+        totals: port.totals(),
+    })
 }
 
 #[test]
@@ -107,8 +118,8 @@ fn counts_each_end_of_a_reading(rt: HostRuntime) -> Result<(), Fail> {
             totals(10, 20, 30),
         ),
     ];
-    for (place, flip, answer, after) in table {
-        assert_eq!(rt; spoilt(place, flip)?, (answer, after));
+    for (place, flip, answer, totals) in table {
+        assert_eq!(rt; spoilt(place, flip)?, Ending { answer, totals });
     }
     Ok(())
 }
@@ -129,7 +140,7 @@ fn refuses_wrong_lengths(rt: HostRuntime) -> Result<(), Fail> {
     Ok(())
 }
 
-// Writes, spoils so many symbols and reads: whether the words came back, and the totals.
+// Writes, spoils so many symbols and reads: whether the words came back, and the totals. Both are always there, so a pair holds them.
 fn carried<C: Code + Drop>(
     code: C,
     line: &mut [u16],
@@ -138,10 +149,8 @@ fn carried<C: Code + Drop>(
     let mut port = Port::open(code, totals(0, 0, 0))?;
     let sent = [Word::Data(0x0123_4567_89ab_cdef); 80];
     port.write(&sent, line)?;
-    for (i, symbol) in line.iter_mut().enumerate() {
-        if i % 70 == 3 && i / 70 < wrong {
-            *symbol ^= 0x3ff;
-        }
+    for symbol in line.iter_mut().skip(3).step_by(70).take(wrong) {
+        *symbol ^= 0x3ff;
     }
     let mut words = [Word::Data(0); 80];
     let _ = port.read(line, &mut words);

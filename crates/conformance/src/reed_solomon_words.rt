@@ -40,18 +40,18 @@ pub const PARITIES: [[u16; 14]; 12] = [
     ],
 ];
 
-// Of each seed's line with 1, 4, 7, 8, 9 and 12 errors: how many symbols are wrong, or the refusal 33.
-pub const VERDICTS: [[usize; 6]; 12] = [
-    [1, 4, 7, 33, 33, 33],
-    [1, 4, 7, 33, 33, 33],
-    [1, 4, 7, 33, 33, 33],
-    [1, 4, 7, 33, 33, 33],
-    [1, 4, 7, 33, 33, 33],
-    [1, 4, 7, 33, 33, 33],
-    [1, 4, 7, 33, 33, 33],
-    [1, 4, 7, 33, 33, 33],
-    [1, 4, 7, 33, 33, 33],
-    [1, 4, 7, 33, 33, 33],
-    [1, 4, 6, 7, 33, 33],
-    [1, 4, 7, 33, 33, 33],
+// Of each seed's line with 1, 4, 7, 8, 9 and 12 errors: how many symbols are wrong, or that no code word is near enough.
+pub const VERDICTS: [[Option<usize>; 6]; 12] = [
+    [Some(1), Some(4), Some(7), None, None, None],
+    [Some(1), Some(4), Some(7), None, None, None],
+    [Some(1), Some(4), Some(7), None, None, None],
+    [Some(1), Some(4), Some(7), None, None, None],
+    [Some(1), Some(4), Some(7), None, None, None],
+    [Some(1), Some(4), Some(7), None, None, None],
+    [Some(1), Some(4), Some(7), None, None, None],
+    [Some(1), Some(4), Some(7), None, None, None],
+    [Some(1), Some(4), Some(7), None, None, None],
+    [Some(1), Some(4), Some(7), None, None, None],
+    [Some(1), Some(4), Some(6), Some(7), None, None],
+    [Some(1), Some(4), Some(7), None, None, None],
 ];

@@ -3,18 +3,18 @@ use numbered_refusal::Refusal;
 use recording::finding::find;
 use recording::surveying::survey;
 use signal::line::tui_at;
-use signal::reading::read;
+use signal::reading::{SIGNAL_TUI, read};
 use signal::writing::write;
+use std::cmp::Ordering;
 use std::test::Fail;
 use training::records::{Control, Status, Training};
 use training::refusals::TrainingRefusal;
 
-// The number and the place of a refusal, or zeros where there is none.
-fn refused<T: Drop>(r: Result<T, TrainingRefusal>) -> (u8, usize) {
-    match r {
-        Ok(_) => (0, 0),
-        Err(e) => (e.number(), e.place()),
-    }
+// The number and the place of the refusal, if there is one.
+fn refused<T: Drop>(answer: Result<T, TrainingRefusal>) -> Option<(u8, usize)> {
+    answer
+        .err()
+        .map(|refusal| (refusal.number(), refusal.place()))
 }
 
 fn control(mark: u8) -> Result<Control, TrainingRefusal> {
@@ -26,13 +26,10 @@ fn status() -> Result<Status, TrainingRefusal> {
 }
 
 // The TUI from a place on equal those of a text of ones and zeros.
-fn shows(line: &[u8], from: u16, text: &str) -> bool {
-    for (i, c) in text.bytes().enumerate() {
-        if tui_at(line, usize::from(from).wrapping_add(i)) != u8::from(c == b'1') {
-            return false;
-        }
-    }
-    true
+fn shows(line: &[u8], from: usize, text: &str) -> bool {
+    (from..SIGNAL_TUI)
+        .zip(text.bytes())
+        .all(|(at, digit)| tui_at(line, at) == u8::from(digit == b'1'))
 }
 
 #[test]
@@ -65,12 +62,7 @@ fn reads_back(control: Control, status: Status, seed: u16) -> Result<bool, Train
 fn every_part_reads_back(rt: HostRuntime) -> Result<(), Fail> {
     for bits in 0..16u8 {
         for part in 0..3u8 {
-            let [a, b, c, d] = [
-                bits % 2 == 1,
-                bits / 2 % 2 == 1,
-                bits / 4 % 2 == 1,
-                bits / 8 == 1,
-            ];
+            let [a, b, c, d] = [1u8, 2, 4, 8].map(|place| bits & place != 0);
             let control = Control::new(
                 3 * (bits % 2),
                 a,
@@ -98,28 +90,28 @@ fn every_part_reads_back(rt: HostRuntime) -> Result<(), Fail> {
 #[test]
 fn making_and_writing_refuse(rt: HostRuntime) -> Result<(), Fail> {
     for mark in [1u8, 2, 4, 255] {
-        assert_eq!(rt; refused(control(mark)), (51, 0));
+        assert_eq!(rt; refused(control(mark)), Some((51, 0)));
     }
     assert_eq!(rt;
         refused(Control::new(0, false, false, false, false, 0, 0, 3)),
-        (51, 0)
+        Some((51, 0))
     );
     assert_eq!(rt;
         refused(Status::new(false, false, false, false, 0, 4, 0)),
-        (51, 0)
+        Some((51, 0))
     );
     let mut short = [7u8; 547];
     assert_eq!(rt;
         refused(write(control(3)?, status()?, 0, &mut short)),
-        (52, 0)
+        Some((52, 0))
     );
     assert_eq!(rt;
         refused(write(control(3)?, status()?, 2048, &mut short)),
-        (52, 0)
+        Some((52, 0))
     );
     assert_eq!(rt;
         refused(write(control(3)?, status()?, 2047, &mut short)),
-        (53, 0)
+        Some((53, 0))
     );
     assert!(rt; short == [7u8; 547]);
     Ok(())
@@ -132,19 +124,13 @@ fn put_signal(
     mark: u8,
     seed: u16,
 ) -> Result<(), TrainingRefusal> {
-    if recording.len() < 548 || from > recording.len() - 548 {
-        return Err(TrainingRefusal::Length);
-    }
-    write(
-        control(mark)?,
-        status()?,
-        seed,
-        &mut recording[from..from + 548],
-    )
+    let rest = recording.get_mut(from..).ok_or(TrainingRefusal::Length)?;
+    let place = rest.get_mut(..548).ok_or(TrainingRefusal::Length)?;
+    write(control(mark)?, status()?, seed, place)
 }
 
 // What reading refuses once one byte of the signal was changed by `flip`; the signal begins at byte 100.
-fn spoilt(byte: usize, flip: u8) -> Result<(u8, usize), TrainingRefusal> {
+fn spoilt(byte: usize, flip: u8) -> Result<Option<(u8, usize)>, TrainingRefusal> {
     let mut recording = [0x55u8; 648];
     put_signal(&mut recording, 100, 3, 77)?;
     if byte < 548 {
@@ -155,9 +141,12 @@ fn spoilt(byte: usize, flip: u8) -> Result<(u8, usize), TrainingRefusal> {
 
 #[test]
 fn reading_refuses(rt: HostRuntime) -> Result<(), Fail> {
-    assert_eq!(rt; refused(read(&[0u8; 65537], 0)), (53, 0));
-    assert_eq!(rt; refused(read(&[0u8; 648], usize::MAX)), (54, usize::MAX));
-    assert_eq!(rt; spoilt(548, 0)?, (0, 0));
+    assert_eq!(rt; refused(read(&[0u8; 65537], 0)), Some((53, 0)));
+    assert_eq!(rt;
+        refused(read(&[0u8; 648], usize::MAX)),
+        Some((54, usize::MAX))
+    );
+    assert_eq!(rt; spoilt(548, 0)?, None);
     // the marker's ends, a half of the first and of the last cell, the seed, the pattern, the end zeros
     for (byte, flip, number) in [
         (0, 1, 55),
@@ -169,25 +158,29 @@ fn reading_refuses(rt: HostRuntime) -> Result<(), Fail> {
         (547, 64, 58),
         (547, 128, 58),
     ] {
-        assert_eq!(rt; spoilt(byte, flip)?, (number, 800));
+        assert_eq!(rt; spoilt(byte, flip)?, Some((number, 800)));
     }
     Ok(())
 }
 
-fn invert(line: &mut [u8]) {
-    for byte in line.iter_mut() {
-        *byte ^= 0xff;
+// Turns the second half of cell k, and all cells after it; the signal begins at byte 50, and its cells are bytes 54 to 85.
+fn turn_from(recording: &mut [u8], k: usize) -> Result<(), TrainingRefusal> {
+    let cells = recording.get_mut(54..86).ok_or(TrainingRefusal::Length)?;
+    for (cell, byte) in cells.iter_mut().enumerate() {
+        *byte ^= match cell.cmp(&k) {
+            Ordering::Less => 0,
+            Ordering::Equal => 0xf0,
+            Ordering::Greater => 0xff,
+        };
     }
+    Ok(())
 }
 
-// What reading refuses once the bit that cell k carries is the other one: the second half of its byte turns, and all cells after it.
-fn carrying_other(k: usize) -> Result<(u8, usize), TrainingRefusal> {
+// What reading refuses once the bit that cell k carries is the other one.
+fn carrying_other(k: usize) -> Result<Option<(u8, usize)>, TrainingRefusal> {
     let mut recording = [0u8; 600];
     put_signal(&mut recording, 50, 3, 9)?;
-    if k < 32 {
-        recording[54 + k] ^= 0xf0;
-        invert(&mut recording[55 + k..86]);
-    }
+    turn_from(&mut recording, k)?;
     Ok(refused(read(&recording, 400)))
 }
 
@@ -195,34 +188,37 @@ fn carrying_other(k: usize) -> Result<(u8, usize), TrainingRefusal> {
 fn reserved_values_and_bits(rt: HostRuntime) -> Result<(), Fail> {
     // the mark, preset, bits 9 and 6, an update that becomes 3, fixed, bits 11 and 6 of the status
     for (k, number) in [
-        (1, 57),
-        (2, 0),
-        (6, 57),
-        (9, 57),
-        (15, 57),
-        (19, 0),
-        (20, 57),
-        (25, 57),
+        (1, Some(57)),
+        (2, None),
+        (6, Some(57)),
+        (9, Some(57)),
+        (15, Some(57)),
+        (19, None),
+        (20, Some(57)),
+        (25, Some(57)),
     ] {
-        assert_eq!(rt; carrying_other(k)?.0, number);
+        assert_eq!(rt; carrying_other(k)?.map(|(number, _)| number), number);
     }
     Ok(())
 }
 
 #[test]
 fn finding(rt: HostRuntime) -> Result<(), Fail> {
-    assert_eq!(rt; refused(find(&[0u8; 65537], 3)), (53, 0));
-    assert_eq!(rt; refused(find(&[0xffu8; 40], usize::MAX)), (59, usize::MAX));
+    assert_eq!(rt; refused(find(&[0u8; 65537], 3)), Some((53, 0)));
+    assert_eq!(rt;
+        refused(find(&[0xffu8; 40], usize::MAX)),
+        Some((59, usize::MAX))
+    );
     let turned = [0x80u8, 0xff, 0x7f, 0, 0x80, 0xff, 0x7f, 0, 0x80];
     assert_eq!(rt; find(&turned, 0)?, 7);
     assert_eq!(rt; find(&turned, 8)?, 39);
-    assert_eq!(rt; refused(find(&turned, 40)), (59, 40));
+    assert_eq!(rt; refused(find(&turned, 40)), Some((59, 40)));
     Ok(())
 }
 
 #[test]
 fn surveying(rt: HostRuntime) -> Result<(), Fail> {
-    assert_eq!(rt; refused(survey(&[0u8; 65537])), (53, 0));
+    assert_eq!(rt; refused(survey(&[0u8; 65537])), Some((53, 0)));
     let mut recording = [0x5au8; 1800];
     put_signal(&mut recording, 10, 3, 77)?;
     put_signal(&mut recording, 600, 0, 2047)?;

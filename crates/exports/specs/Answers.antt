@@ -11,6 +11,7 @@ use Rattle.code.specs.Refusals as of_code
 use Rattle.code.specs.declared.refusal.CodeRefusal.{CodeRefusal}
 use Rattle.reed_solomon_algebra.specs.Division.{reed_solomon_code}
 use Rattle.port.specs.Calls.{Written, Reads}
+use Rattle.port.specs.Limits.{zeros}
 use Rattle.port.specs.Refusals as of_port
 use Rattle.port.specs.declared.totals.Totals.{Totals}
 use Rattle.port.specs.declared.refusal.PortRefusal.{PortRefusal}
@@ -25,30 +26,30 @@ rs = reed_solomon_code 7
 abbrev pub pile : Model
 pile = scrambled rs
 
-abbrev pub number_of_form : Result Unit CodeRefusal → ℕ
-number_of_form (Ok u) = 0
-number_of_form (Err e) = refused (of_code.number e)
+-- a call gave a number, or was refused; a refusal is `numbered` by its layer
+abbrev pub number_of : {A E : Type 0} → (A → ℕ) → (E → ℕ) → Result A E → ℕ
+number_of given numbered (Ok a) = given a
+number_of given numbered (Err e) = refused (numbered e)
 
--- a distance is at most 7
-abbrev pub number_of_mend : Result ℕ CodeRefusal → ℕ
-number_of_mend (Ok d) = min d 999
-number_of_mend (Err e) = refused (of_code.number e)
+-- writing and forming give nothing
+abbrev pub nothing : Unit {0} → ℕ
+nothing u = 0
 
-abbrev pub number_of_port : Result Unit PortRefusal → ℕ
-number_of_port (Ok u) = 0
-number_of_port (Err e) = refused (of_port.number e)
+-- a distance, and the symbols that a reading mends, are at most 7
+abbrev pub at_most_999 : ℕ → ℕ
+at_most_999 d = min d 999
 
 -- forming answered r
 pub record FormAnswer (message line line' : List ℕ) (r : ℕ) : Type 0 where
   pub answer : Result Unit CodeRefusal
   pub formed : Formed rs message line line' answer
-  pub is : r ≡ number_of_form answer
+  pub is : r ≡ number_of nothing of_code.number answer
 
 -- mending answered r
 pub record MendAnswer (line message line' message' : List ℕ) (r : ℕ) : Type 0 where
   pub answer : Result ℕ CodeRefusal
   pub mended : Mended rs line message line' message' answer
-  pub is : r ≡ number_of_mend answer
+  pub is : r ≡ number_of at_most_999 of_code.number answer
 
 -- eighty data words of these bodies; bodies that are not there count as 0
 pub record DataWords (bodies : List ℕ) (words : List Word) : Type 0 where
@@ -61,16 +62,7 @@ pub record WriteAnswer (bodies line line' : List ℕ) (r : ℕ) : Type 0 where
   pub given : DataWords bodies words
   pub answer : Result Unit PortRefusal
   pub written : Written pile words line line' answer
-  pub is : r ≡ number_of_port answer
-
--- a port that was opened on zeros
-abbrev pub zeros : Totals
-zeros = record { accepted = 0; dropped = 0; mended = 0 }
-
--- the symbols mended, at most 7
-abbrev pub read_number : Totals → Result Unit PortRefusal → ℕ
-read_number a (Ok u) = min a.mended 999
-read_number a (Err e) = refused (of_port.number e)
+  pub is : r ≡ number_of nothing of_port.number answer
 
 -- the place for bodies holds those of the first words, as many as there is room for
 abbrev pub BodiesOf : List Word → List ℕ → Type 0
@@ -88,4 +80,4 @@ pub record ReadAnswer (line bodies line' bodies' : List ℕ) (r : ℕ) : Type 0 
   pub answer : Result Unit PortRefusal
   pub reads : Reads pile zeros line words line' words' totals answer
   pub filled : Filled words' bodies bodies' answer
-  pub is : r ≡ read_number totals answer
+  pub is : r ≡ number_of (λ u. at_most_999 totals.mended) of_port.number answer

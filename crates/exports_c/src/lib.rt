@@ -1,4 +1,5 @@
 // The calls of `exports` under the names that C links: each answers what the call below it answers.
+// They stand in a crate of their own, since C links a static library and no crate can use one.
 #![tactic(auto)]
 
 ghost use Rattle.exports.specs.Answers.{FormAnswer, MendAnswer, WriteAnswer, ReadAnswer};

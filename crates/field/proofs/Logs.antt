@@ -1,11 +1,11 @@
 -- The tables of the powers of α and of their exponents.
-use Rattle.std.proofs.Common.{◌≡◌, ℕ, zero, suc, ◌+◌, ◌-◌, ◌*◌, ◌/◌, ◌%◌, ◌<◌, ◌≤◌, Bool, true, T, eqb, ltb, List, [], ◌∷◌, length, get_or, sym, ap, ◌∙◌, subst, le_of_suc-le-suc, not-suc-le-zero, add-zero, add-suc, suc-add, zero-add, arith, eqb→eq, ltb→lt}
-use Rattle.field.specs.Field.{mul, pow, times_x}
+use Rattle.std.proofs.Common.{◌≡◌, ℕ, zero, suc, ◌+◌, ◌-◌, ◌*◌, ◌/◌, ◌%◌, ◌<◌, ◌≤◌, Bool, true, T, eqb, ltb, List, [], ◌∷◌, length, get_or, sym, ap, ◌∙◌, subst, le_of_suc-le-suc, not-suc-le-zero, add-zero, add-suc, suc-add, zero-add, arith, lit<, eqb→eq, ltb→lt}
+use Rattle.field.specs.Field.{mul, pow, inv, times_x}
 use Rattle.field.specs.Laws.{ExponentOf}
 use Rattle.field.proofs.Lists.{powers, logs}
 use Rattle.field.proofs.Every.{both, both_left, both_right, every, every_at}
 use Rattle.field.proofs.Laws.{mul_one_l}
-use Rattle.field.proofs.Powers.{pow_two_suc, pow_zero, pow_add, pow_lt, pow_two_whole}
+use Rattle.field.proofs.Powers.{pow_two_suc, pow_zero, pow_add, pow_lt, pow_pos, pow_two_whole, inv_lt, inv_mod, mul_inv, mul_cancel}
 
 -- each entry is the one before it times x, from b on
 abbrev pub follows : ℕ → List ℕ → Bool
@@ -61,3 +61,14 @@ pow_turns (suc q) r = sym (pow_whole (suc q * 1023 + r) (omega arith)) ∙ ap (p
 
 pub pow_mod : (i : ℕ) → pow 2 (i % 1023) ≡ pow 2 i
 pow_mod i = sym (pow_turns (i / 1023) (i % 1023)) ∙ ap (pow 2) (omega arith)
+
+-- the inverse has the exponent that makes up 1,023
+pub inverse_power : (a e : ℕ) → ExponentOf (a % 1024) e → pow 2 (1023 - e) ≡ inv a
+inverse_power a e x =
+    let b = a % 1024 in
+    let r = pow 2 (1023 - e) in
+    let more : 0 < b = subst (λ (y : ℕ). 0 < y) x.gives (pow_pos 2 e (lit< tt) (lit< tt)) in
+    let less : b < 1024 = omega arith in
+    let all : e + (1023 - e) ≡ 1023 = omega (arith, x.small) in
+    let one : mul b r ≡ 1 = ap (λ (y : ℕ). mul y r) (sym x.gives) ∙ sym (pow_add 2 e (1023 - e)) ∙ ap (pow 2) all ∙ pow_two_whole in
+    mul_cancel b r (inv b) more less (pow_lt 2 (1023 - e)) (inv_lt b) (one ∙ sym (mul_inv b more less)) ∙ inv_mod a

@@ -1,10 +1,10 @@
 -- Powers, the inverse, and the order of x.
-use Rattle.std.proofs.Common.{◌≡◌, ℕ, zero, suc, ◌+◌, ◌-◌, ◌^◌, ◌<◌, Bool, true, not, T, eqb, ◌≢◌, ◌⊎◌, sym, refl, ap, ◌∙◌, subst, inl, inr, le_of_suc-le-suc, not-suc-le-zero, add-zero, add-suc, suc-add, zero-add, arith, lit<, eqb→eq, T_not}
+use Rattle.std.proofs.Common.{◌≡◌, ℕ, zero, suc, ◌+◌, ◌-◌, ◌%◌, ◌^◌, ◌<◌, Bool, true, not, T, eqb, ◌≢◌, ◌⊎◌, sym, refl, ap, ◌∙◌, subst, inl, inr, le_of_suc-le-suc, not-suc-le-zero, add-zero, add-suc, suc-add, zero-add, arith, lit<, eqb→eq, T_not}
 use lib.Bits.{bit_xor}
 use Rattle.field.specs.Field.{times_x, mul_lowest, mul, pow, inv}
 use Rattle.field.specs.Laws.{AlphaLaws, InverseLaws}
 use Rattle.field.proofs.Every.{every, every_at, both, both_left, both_right}
-use Rattle.field.proofs.Laws.{mul_lt, mul_comm, mul_assoc, mul_one_l, mul_one_r, mul_two, mul_zero_r, mul_zero_l}
+use Rattle.field.proofs.Laws.{mul_lt, mul_comm, mul_assoc, mul_one_l, mul_one_r, mul_two, mul_zero_r, mul_zero_l, mul_mod_l}
 
 pub pow_zero : (a : ℕ) → pow a 0 ≡ 1
 unfolding pow
@@ -153,18 +153,14 @@ pow_two_apart i j p h e =
     (sym (mul_cancel (pow 2 i) 1 (pow 2 (j - i)) (pow_pos 2 i (lit< tt) (lit< tt)) (pow_lt 2 i) (lit< tt) (pow_lt 2 (j - i))
     (mul_one_r (pow 2 i) (pow_lt 2 i) ∙ e ∙ ap (pow 2) (omega arith) ∙ pow_add 2 i (j - i))))
 
-pub chain_lt : (n s : ℕ) → chain n s < 1024
-unfolding chain
-chain_lt zero s = lit< tt
-chain_lt (suc n) s = mul_lt s (chain n (mul s s))
+pow_mod_base : (a n : ℕ) → pow (a % 1024) n ≡ pow a n
+pow_mod_base a zero = pow_zero (a % 1024) ∙ sym (pow_zero a)
+pow_mod_base a (suc n) =
+    pow_suc (a % 1024) n ∙ mul_mod_l a (pow (a % 1024) n) ∙ ap (mul a) (pow_mod_base a n) ∙ sym (pow_suc a n)
 
-pub chain_more : (n s r t : ℕ) → mul r (chain (suc n) s) ≡ t → mul (mul r s) (chain n (mul s s)) ≡ t
-unfolding chain
-chain_more n s r t e = mul_assoc r s (chain n (mul s s)) ∙ e
-
-pub chain_none : (s r t : ℕ) → r < 1024 → mul r (chain 0 s) ≡ t → r ≡ t
-unfolding chain
-chain_none s r t h e = sym (mul_one_r r h) ∙ e
+pub inv_mod : (a : ℕ) → inv (a % 1024) ≡ inv a
+unfolding inv
+inv_mod a = pow_mod_base a 1022
 
 -- ---- the laws together
 

@@ -15,24 +15,13 @@ const LOWEST_TEN: u16 = 1023;
 // How many powers α has.
 const ORDER: usize = 1023;
 
-fn power_below(i: usize) -> u16
-    requires { i < 1023 }
-    ensures { result ≡ pow α i }
-{
-    POWERS[i]
-}
-
 // α to the power `i`.
 pub fn alpha_power(i: usize) -> u16
     ensures value { result ≡ pow α i }
     ensures small { result < 1024 }
     ensures laws { AlphaLaws }
 {
-    if i < ORDER {
-        power_below(i)
-    } else {
-        power_below(i % ORDER)
-    }
+    POWERS[i % ORDER]
 }
 
 // The exponent of α that gives `a`.
@@ -55,37 +44,28 @@ pub fn exponent(a: u16) -> Option<usize>
     }
 }
 
+// The product of two elements.
 pub fn product(a: u16, b: u16) -> u16
     ensures value { result ≡ mul a b }
     ensures small { result < 1024 }
 {
-    let left = a & LOWEST_TEN;
-    let right = b & LOWEST_TEN;
-    if left == 0 || right == 0 {
-        return 0;
-    }
-    let sum = log(left) + log(right);
-    if sum < ORDER {
-        power_below(sum)
-    } else {
-        power_below(sum - ORDER)
+    match (exponent(a), exponent(b)) {
+        (Some(left), Some(right)) => alpha_power(left + right),
+        _ => 0,
     }
 }
 
-// What `a` times it is 1, and 0 of 0: `a` to the power 1,022, whose bits are nine ones and a zero.
+// What `a` times it is 1, and 0 of 0: the exponents of the two add up to the order.
 pub fn inverse(a: u16) -> u16
     ensures value { result ≡ inv a }
     ensures small { result < 1024 }
     ensures inverts { 0 < a → a < 1024 → mul a result ≡ 1 }
     ensures laws { InverseLaws }
 {
-    let mut square = product(a, a);
-    let mut result = 1;
-    for step in 0..9u16 {
-        result = product(result, square);
-        square = product(square, square);
+    match exponent(a) {
+        Some(e) => alpha_power(ORDER - e),
+        None => 0,
     }
-    result
 }
 
 // The laws of `^` and `product`, as a claim.

@@ -1,1 +1,2 @@
--- The program has no lemmas of its own.
+-- Lemmas on the input.
+pub mod Inputs

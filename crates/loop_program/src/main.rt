@@ -1,42 +1,34 @@
 // Reads a text of eighty words, carries the words over scrambled RS(528,514) with seven symbols damaged, and prints the answer.
 #![tactic(auto)]
 
-ghost use Rattle.std.specs.Prelude.{◌≤◌, length, IfOk};
+ghost use Rattle.std.specs.Prelude.{◌≡◌, ◌≤◌, take, IfOk, IfSome, vec_len};
+ghost use Rattle.text.specs.Laws.{enough};
 
 use code::scrambled::Scrambled;
 use loopback::answer::printed;
 use loopback::running::run;
 use reed_solomon::codec::ReedSolomon;
+use std::alloc::Global;
 use std::io;
 use std::io::Read;
 use text::reading::ENOUGH;
 
-// The first bytes of standard input, as many as an answer can depend on; answers how many there are.
-fn read_text(rt: &HostRuntime, text: &mut [u8]) -> io::Result<usize>
-    ensures { IfOk result (λ n. n ≤ length text.old) }
+// The first bytes of the input, as many as an answer can depend on.
+fn read_text<R: Read + Drop>(heap: Global, input: R) -> io::Result<Vec<u8>>
+    ensures few { IfOk result (λ text. vec_len text ≤ enough) }
+    ensures first { IfOk result (λ text. IfSome (R.remaining input) (λ bytes. text.items ≡ take enough bytes)) }
 {
-    let mut input = rt.stdin();
-    let mut filled = 0;
-    // A turn brings a byte at least, and the turn that brings none ends it.
-    for _ in 0..=ENOUGH {
-        let n = input.read(&mut text[filled..])?;
-        if n == 0 {
-            break;
-        }
-        filled += n;
+    let mut text = Vec::new(heap);
+    for byte in input.bytes().take(ENOUGH) {
+        text.push(byte?)?;
     }
-    Ok(filled)
-}
-
-fn start(rt: &HostRuntime) -> anyhow::Result<()> {
-    let mut text = [0u8; 1531];
-    let filled = read_text(rt, &mut text)?;
-    let code = Scrambled { inner: ReedSolomon };
-    let said = printed(rt.alloc(), &run(code, &text[0..filled]))?;
-    print!(rt; "{said}")?;
-    Ok(())
+    Ok(text)
 }
 
 fn main(rt: HostRuntime) -> anyhow::Result<()> {
-    start(&rt)
+    let text = read_text(rt.alloc(), rt.stdin())?;
+    let code = Scrambled { inner: ReedSolomon };
+    let said = printed(rt.alloc(), &run(code, text.as_slice()))?;
+    print!(rt; "{said}")?;
+    Ok(())
 }

@@ -1,5 +1,5 @@
 -- A line with some symbols flipped: as long, of symbols, and just so far away.
-use Rattle.std.proofs.Common.{◌≡◌, ℕ, zero, suc, ◌+◌, ◌<◌, ◌≤◌, cond, List, [], ◌∷◌, length, get_or, set, sym, refl, ap, ◌∙◌, arith}
+use Rattle.std.proofs.Common.{◌≡◌, ℕ, zero, suc, ◌+◌, ◌<◌, ◌≤◌, cond, List, [], ◌∷◌, ◌++◌, length, get_or, take, drop, set, sym, refl, ap, ◌∙◌, arith}
 use lib.Bits.{bit_xor, xor_assoc, xor_self, xor_lt}
 use Rattle.std.proofs.lemmas.Bool.{ne_eqb}
 use Rattle.symbols.specs.Symbols.{Symbol, Symbols}
@@ -15,6 +15,13 @@ flipped_more zero (x ∷ xs) h = refl
 flipped_more (suc n) (x ∷ xs) h =
     let e : suc n + 1 ≡ suc (n + 1) = omega arith in
     ap (λ ys. bit_xor x 1 ∷ ys) (flipped_more n xs (omega arith)) ∙ ap (λ k. flipped k (x ∷ xs)) (sym e)
+
+-- the first n symbols flipped, and the others behind them
+pub flipped_front : (n : ℕ) (xs : List ℕ) → n ≤ length xs → flipped n (take n xs) ++ drop n xs ≡ flipped n xs
+unfolding flipped
+flipped_front zero xs h = refl
+flipped_front (suc n) [] h = refl
+flipped_front (suc n) (x ∷ xs) h = ap (λ ys. bit_xor x 1 ∷ ys) (flipped_front n xs (omega arith))
 
 pub length_flipped : (n : ℕ) (xs : List ℕ) → length (flipped n xs) ≡ length xs
 unfolding flipped

@@ -7,6 +7,7 @@ use Rattle.messages.specs.Numbers.{message_of}
 use Rattle.code.specs.Distance.{distance}
 use Rattle.code.specs.Codes.{Model, Lawful}
 use Rattle.port.specs.Calls.{Sized, Ready, Written, WrittenOk, Reads, line_of, one_accepted}
+use Rattle.port.specs.Limits.{zeros}
 use Rattle.port.specs.Promise.{Answer, Eighty}
 use Rattle.port.specs.declared.totals.Totals.{Totals}
 use Rattle.port.specs.declared.refusal.PortRefusal.TheVariants.{Opening, Length, Full, Code, Message as Unread}
@@ -14,9 +15,6 @@ use Rattle.loopback.specs.Damage.{flipped}
 use Rattle.loopback.specs.Carried.{CarriedHome, ReadHome}
 use Rattle.loopback.proofs.Flips.{length_flipped, symbols_flipped, distance_flipped}
 use Rattle.loopback.proofs.Homes.{message_of_words, home}
-
-abbrev zeros : Totals
-zeros = record { accepted = 0; dropped = 0; mended = 0 }
 
 -- words of the right number and a line of the right length are written
 wrote : (m : Model) (words : List Word) (line line' : List ℕ) (w : Answer) → Sized m words line → Written m words line line' w → WrittenOk m words line line'

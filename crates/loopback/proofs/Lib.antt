@@ -3,4 +3,3 @@ pub mod Flips
 pub mod Readable
 pub mod Homes
 pub mod Journeys
-pub mod Sayings

@@ -1,4 +1,4 @@
-// The answer to a text, and the bytes that are printed for it.
+// The bytes that are printed for the answer to a text.
 ghost use Rattle.std.specs.Prelude.{◌≡◌, IfOk, string_bytes};
 ghost use Rattle.loopback.specs.Printed.{printed as bytes_of};
 
@@ -7,25 +7,19 @@ use port::totals::Totals;
 use std::alloc::{AllocError, Global};
 use text::refusal::TextRefusal;
 
-// The totals of the port, or why the text was refused.
-#[derive(Clone, Copy, Drop)]
-pub enum Answer {
-    Counted(Totals),
-    Refused(TextRefusal),
-}
-
 // The two lines that are printed: names, and the values in that order, byte 10 after each.
-pub fn printed(heap: Global, answer: &Answer) -> Result<String, AllocError>
+pub fn printed(heap: Global, answer: &Result<Totals, TextRefusal>) -> Result<String, AllocError>
     ensures { IfOk result (λ s. string_bytes s ≡ bytes_of answer.now) }
 {
     match *answer {
-        Answer::Counted(totals) => {
-            let accepted = totals.accepted;
-            let dropped = totals.dropped;
-            let mended = totals.mended;
-            format!(in heap; "accepted dropped mended\n{accepted} {dropped} {mended}\n")
-        }
-        Answer::Refused(refusal) => {
+        Ok(
+            Totals {
+                accepted,
+                dropped,
+                mended,
+            },
+        ) => format!(in heap; "accepted dropped mended\n{accepted} {dropped} {mended}\n"),
+        Err(refusal) => {
             let number = refusal.number();
             let row = refusal.place();
             let column = refusal.column();

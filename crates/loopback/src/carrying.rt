@@ -1,5 +1,6 @@
 // Eighty words written to a line, the line damaged, and the words read back.
 ghost use Rattle.std.specs.Prelude.{◌≡◌, ◌≤◌, length};
+ghost use Rattle.port.specs.Limits.{zeros};
 ghost use Rattle.loopback.specs.Damage.{flipped};
 ghost use Rattle.loopback.specs.Carried.{CarriedHome, NearLinesReadHome};
 
@@ -10,12 +11,6 @@ use words::word::Word;
 
 // How many symbols of the line are damaged, from the first one on.
 pub const DAMAGED: usize = 7;
-
-const ZEROS: Totals = Totals {
-    accepted: 0,
-    dropped: 0,
-    mended: 0,
-};
 
 // The words that were read, and the totals of the port.
 #[derive(Drop)]
@@ -29,9 +24,17 @@ fn flip(line: &mut [u16])
     requires { 7 ≤ length line.old }
     ensures { line.new ≡ flipped 7 line.old }
 {
-    for i in 0..DAMAGED {
-        line[i] ^= 1;
+    for symbol in &mut line[..DAMAGED] {
+        *symbol ^= 1;
     }
+}
+
+// A port over the code, opened on zeros, which are never refused.
+fn opened<C: Code + Drop>(code: C) -> Port<C>
+    ensures code { result.code ≡ code }
+    ensures totals { result.totals ≡ zeros }
+{
+    Port::open(code, Totals::default()).unwrap()
 }
 
 // Opens a port on zeros, writes the words, flips bit 0 of the first seven symbols of the line, reads it, and answers the
@@ -41,19 +44,16 @@ pub fn carry<C: Code + Drop>(code: C, words: &[Word; 80]) -> Carried
     ensures home { NearLinesReadHome (C.Code.model code) }
 {
     let n = code.n();
-    match Port::open(code, ZEROS) {
-        Ok(mut port) => {
-            let mut room = [0u16; LONGEST_LINE];
-            let line = &mut room[0..n];
-            let _ = port.write(words, line);
-            flip(line);
-            let mut read = [Word::Data(0); 80];
-            let _ = port.read(line, &mut read);
-            Carried {
-                words: read,
-                totals: port.totals(),
-            }
-        }
-        Err(_) => unreachable(),
+    let mut port = opened(code);
+    // Only the code says how long its line is, and no memory is asked for: the line is the front of a room for any.
+    let mut room = [0u16; LONGEST_LINE];
+    let line = &mut room[..n];
+    let _ = port.write(words, line);
+    flip(line);
+    let mut read = [Word::Data(0); 80];
+    let _ = port.read(line, &mut read);
+    Carried {
+        words: read,
+        totals: port.totals(),
     }
 }

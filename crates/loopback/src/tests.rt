@@ -8,6 +8,13 @@ use text::reading::words_of;
 
 const NAMES: &str = "head body\n";
 
+fn push_rows(text: &mut Vec<u8>, row: &[u8], count: usize) -> Result<(), Fail> {
+    for _ in 0..count {
+        text.extend_from_slice(row)?;
+    }
+    Ok(())
+}
+
 // The answer to some bytes behind so many right rows, with so many right rows behind them.
 fn answers(
     rt: &(impl AllocGlobal + Abort),
@@ -20,13 +27,9 @@ fn answers(
     let row = b"d 0000000000000000\n";
     let mut text = Vec::new(rt.alloc());
     text.extend_from_slice(names.as_bytes())?;
-    for _ in 0..before {
-        text.extend_from_slice(row)?;
-    }
+    push_rows(&mut text, row, before)?;
     text.extend_from_slice(bytes)?;
-    for _ in 0..after {
-        text.extend_from_slice(row)?;
-    }
+    push_rows(&mut text, row, after)?;
     let said = printed(rt.alloc(), &run(Bare, text.as_slice()))?;
     assert!(rt; said.as_str() == expected, "{said}");
     Ok(())
@@ -129,9 +132,7 @@ const TYPES: [u8; 15] = [
 fn every_type(rt: HostRuntime) -> Result<(), Fail> {
     let mut text = Vec::new(rt.alloc());
     text.extend_from_slice(NAMES.as_bytes())?;
-    for _ in 0..65 {
-        text.extend_from_slice(b"d 0123456789abcdef\n")?;
-    }
+    push_rows(&mut text, b"d 0123456789abcdef\n", 65)?;
     for t in TYPES {
         let row = format!(in rt.alloc(); "c fedcba98765432{t:02x}\n")?;
         text.extend_from_slice(row.as_bytes())?;
@@ -139,12 +140,9 @@ fn every_type(rt: HostRuntime) -> Result<(), Fail> {
     let words = words_of(text.as_slice())?;
     assert_eq!(rt; words[64].header(), 2);
     assert_eq!(rt; words[64].body(), 0x0123_4567_89ab_cdef);
-    for i in 0..15 {
-        assert_eq!(rt; words[65 + i].header(), 1);
-        assert_eq!(rt;
-            words[65 + i].body(),
-            0xfedc_ba98_7654_3200 + TYPES[i] as u64
-        );
+    for (word, t) in words[65..].iter().zip(TYPES) {
+        assert_eq!(rt; word.header(), 1);
+        assert_eq!(rt; word.body(), 0xfedc_ba98_7654_3200 + t as u64);
     }
     Ok(())
 }

@@ -20,6 +20,10 @@ behind_behind : (ws vs : List Raw) (r : MessageReading) → behind ws (behind vs
 behind_behind ws vs (gives_all us) = ap gives_all (sym (append_assoc ws vs us))
 behind_behind ws vs (refuses_at b e) = refl
 
+pub begun : (r : MessageReading) → r ≡ behind [] r
+begun (gives_all ws) = refl
+begun (refuses_at b e) = refl
+
 module _ (total : MessageReading) (words : List Word) (b x : ℕ) (h : b < 20) (inv : total ≡ behind (raws (take (4 * b) words)) (read_message (20 - b) b x)) where
   opened : total ≡ behind (raws (take (4 * b) words)) (next b (read_block (x % 2 ^ 257)) (read_message (20 - (b + 1)) (b + 1) (x / 2 ^ 257)))
   opened =

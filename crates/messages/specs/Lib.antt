@@ -3,5 +3,5 @@ pub mod Refusals
 pub mod Messages
 pub mod Numbers
 pub mod Reading
-pub mod Pens
+pub mod Writers
 pub mod Readers

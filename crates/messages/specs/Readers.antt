@@ -1,18 +1,17 @@
--- For proofs: reading bits from symbols: `fill` bits in `acc` were taken from the symbols before `at` and wait.
-use Rattle.std.specs.Prelude.{◌≡◌, ℕ, ◌+◌, ◌*◌, ◌/◌, ◌%◌, ◌^◌, ◌<◌, ◌≤◌, List, length, drop}
+-- For proofs: reading bits from symbols: `fill` bits in `acc` wait below the symbols `rest`, which are still to be read.
+use Rattle.std.specs.Prelude.{ℕ, ◌+◌, ◌*◌, ◌^◌, ◌<◌, List, length}
+use Rattle.symbols.specs.Symbols.{Symbols}
 use Rattle.blocks.specs.Packed.{packed}
 
--- all bits that are still to be read
-abbrev pub ahead : ℕ → ℕ → ℕ → List ℕ → ℕ
-ahead acc fill at xs = acc + 2 ^ fill * packed 10 (drop at xs)
+-- the bits that are still to be read, as a number, and how many they are
+pub record Ahead : Type 0 where
+  pub bits : ℕ
+  pub count : ℕ
 
-pub record Waiting (acc fill at : ℕ) (xs : List ℕ) : Type 0 where
+abbrev pub ahead : ℕ → ℕ → List ℕ → Ahead
+ahead acc fill rest = record { bits = acc + 2 ^ fill * packed 10 rest; count = fill + 10 * length rest }
+
+pub record Waiting (acc fill : ℕ) (rest : List ℕ) : Type 0 where
   pub held : acc < 2 ^ fill
   pub few : fill < 10
-  pub within : at ≤ length xs
-
-pub record Pulled (value width acc fill at acc' fill' at' : ℕ) (xs : List ℕ) : Type 0 where
-  pub waiting : Waiting acc' fill' at' xs
-  pub count : 10 * at' + fill ≡ 10 * at + fill' + width
-  pub is : value ≡ ahead acc fill at xs % 2 ^ width
-  pub left : ahead acc' fill' at' xs ≡ ahead acc fill at xs / 2 ^ width
+  pub small : Symbols rest

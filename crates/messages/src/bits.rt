@@ -1,91 +1,136 @@
 // Bits to symbols and back, up to 64 at a time, by way of an accumulator.
-ghost use Rattle.std.specs.Prelude.{◌≡◌, ◌+◌, ◌*◌, ◌^◌, ◌<◌, ◌≤◌, length};
+ghost use Rattle.std.specs.Prelude.{◌≡◌, ◌+◌, ◌*◌, ◌/◌, ◌%◌, ◌^◌, ◌<◌, ◌≤◌, [], length};
 ghost use Rattle.symbols.specs.Symbols.{Symbols};
 ghost use Rattle.blocks.specs.Packed.{packed};
-ghost use Rattle.messages.specs.Pens.{Ready, Pushed};
-ghost use Rattle.messages.specs.Readers.{Waiting, Pulled};
 
 use blocks::block::Block;
+use std::marker::Model;
 
-// Where the next symbol goes or comes from, and the bits, fewer than ten, that wait.
-#[derive(Clone, Copy, Drop)]
-pub(crate) struct Pen {
-    pub(crate) acc: u128,
-    pub(crate) fill: u32,
-    pub(crate) at: usize,
+// Writes bits as symbols: `fill` bits, fewer than ten, wait in `acc` above the first `at` symbols of `out`, which are
+// written.
+#[derive(Drop)]
+pub(crate) struct Writer<'a> {
+    out: &'a mut [u16],
+    at: usize,
+    acc: u128,
+    fill: u32,
+    ghost held: { acc < 2 ^ fill },
+    ghost few: { fill < 10 },
 }
 
-fn push(pen: Pen, out: &mut [u16], value: u64, width: u32) -> Pen
-    requires ready { Ready pen.acc pen.fill pen.at out.old }
-    requires narrow { (value < 2 ^ width) × (width ≤ 64) }
-    requires room { 10 * pen.at + pen.fill + width ≤ 10 * length out.old }
-    ensures { Pushed value width pen.acc pen.fill pen.at out.old result.acc result.fill result.at out.new }
-{
-    let mut acc = pen.acc + ((value as u128) << pen.fill);
-    let mut fill = pen.fill + width;
-    let mut at = pen.at;
-    while fill >= 10 {
-        out[at] = (acc % 1024) as u16;
-        acc /= 1024;
-        fill -= 10;
-        at += 1;
+impl<'a> Writer<'a> {
+    ghost use Rattle.messages.specs.Writers.{count, Pushed};
+
+    pub(crate) fn new(out: &'a mut [u16]) -> Writer<'a>
+        ensures same { result.out.ghost_name ≡ out.entry.ghost_name }
+        ensures out { result.out.now ≡ out.old }
+        ensures at { result.at ≡ 0 }
+        ensures acc { result.acc ≡ 0 }
+        ensures fill { result.fill ≡ 0 }
+    {
+        Writer {
+            out,
+            at: 0,
+            acc: 0,
+            fill: 0,
+        }
     }
-    Pen { acc, fill, at }
-}
 
-pub(crate) fn push_block(pen: Pen, out: &mut [u16], block: &Block) -> Pen
-    requires ready { Ready pen.acc pen.fill pen.at out.old }
-    requires room { 10 * pen.at + pen.fill + 257 ≤ 10 * length out.old }
-    ensures { Pushed (packed 64 block.now.limbs) 257 pen.acc pen.fill pen.at out.old result.acc result.fill result.at out.new }
-{
-    let a = push(pen, out, block.limbs[0], 64);
-    let b = push(a, out, block.limbs[1], 64);
-    let c = push(b, out, block.limbs[2], 64);
-    let d = push(c, out, block.limbs[3], 64);
-    push(d, out, block.limbs[4], 1)
-}
-
-fn pull(pen: Pen, symbols: &[u16], width: u32) -> (u64, Pen)
-    requires waiting { Waiting pen.acc pen.fill pen.at symbols.now }
-    requires small { Symbols symbols.now }
-    requires narrow { width ≤ 64 }
-    requires room { 10 * pen.at + width ≤ 10 * length symbols.now + pen.fill }
-    ensures { Pulled result.0 width pen.acc pen.fill pen.at result.1.acc result.1.fill result.1.at symbols.now }
-{
-    let mut acc = pen.acc;
-    let mut fill = pen.fill;
-    let mut at = pen.at;
-    while fill < width {
-        acc += (symbols[at] as u128) << fill;
-        fill += 10;
-        at += 1;
+    fn push(&mut self, value: u64, width: u32)
+        requires narrow { (value < 2 ^ width) × (width ≤ 64) }
+        requires room { count self.old + width ≤ 10 * length self.old.out.now }
+        ensures same { self.new.out.ghost_name ≡ self.old.out.ghost_name }
+        ensures bits { Pushed value width self.old self.new }
+    {
+        let mut acc = self.acc + ((value as u128) << self.fill);
+        let fill = self.fill + width;
+        let end = self.at + (fill / 10) as usize;
+        for symbol in self.out[self.at..end].iter_mut() {
+            *symbol = (acc % 1024) as u16;
+            acc /= 1024;
+        }
+        self.acc = acc;
+        self.fill = fill % 10;
+        self.at = end;
     }
-    let value = (acc & ((1u128 << width) - 1)) as u64;
-    (
-        value,
-        Pen {
-            acc: acc >> width,
-            fill: fill - width,
-            at,
-        },
-    )
+
+    pub(crate) fn push_block(&mut self, block: &Block)
+        requires room { count self.old + 257 ≤ 10 * length self.old.out.now }
+        ensures same { self.new.out.ghost_name ≡ self.old.out.ghost_name }
+        ensures bits { Pushed (packed 64 block.now.limbs) 257 self.old self.new }
+    {
+        let [a, b, c, d, top] = block.limbs;
+        for limb in [a, b, c, d] {
+            self.push(limb, 64);
+        }
+        self.push(top, 1);
+    }
 }
 
-pub(crate) fn pull_block(pen: Pen, symbols: &[u16]) -> (Block, Pen)
-    requires waiting { Waiting pen.acc pen.fill pen.at symbols.now }
-    requires small { Symbols symbols.now }
-    requires room { 10 * pen.at + 257 ≤ 10 * length symbols.now + pen.fill }
-    ensures { Pulled (packed 64 result.0.limbs) 257 pen.acc pen.fill pen.at result.1.acc result.1.fill result.1.at symbols.now }
-{
-    let (l0, a) = pull(pen, symbols, 64);
-    let (l1, b) = pull(a, symbols, 64);
-    let (l2, c) = pull(b, symbols, 64);
-    let (l3, d) = pull(c, symbols, 64);
-    let (l4, e) = pull(d, symbols, 1);
-    (
+// Reads symbols as bits: `fill` bits, fewer than ten, wait in `acc` below the symbols that are still to be read.
+#[derive(Drop)]
+pub(crate) struct Reader<'a> {
+    symbols: &'a [u16],
+    acc: u128,
+    fill: u32,
+}
+
+// A reader is the bits that are still to be read, and how many they are.
+impl<'a> Model for Reader<'a> {
+    ghost use Rattle.messages.specs.Readers.{Ahead, ahead, Waiting};
+
+    ghost Value = { Ahead };
+
+    ghost view = { λ r. ahead r.acc r.fill r.symbols.now };
+
+    ghost invariant = { λ r. Waiting r.acc r.fill r.symbols.now };
+}
+
+impl<'a> Reader<'a> {
+    pub(crate) fn new(symbols: &'a [u16]) -> Reader<'a>
+        requires { Symbols symbols.now }
+        ensures bits { result.bits ≡ packed 10 symbols.now }
+        ensures count { result.count ≡ 10 * length symbols.now }
+    {
+        Reader {
+            symbols,
+            acc: 0,
+            fill: 0,
+        }
+    }
+
+    fn pull(&mut self, width: u32) -> u64
+        requires narrow { width ≤ 64 }
+        requires room { width ≤ self.old.count }
+        ensures value { result ≡ self.old.bits % 2 ^ width }
+        ensures bits { self.new.bits ≡ self.old.bits / 2 ^ width }
+        ensures count { self.new.count + width ≡ self.old.count }
+    {
+        while self.fill < width {
+            self.acc += (self.symbols[0] as u128) << self.fill;
+            self.symbols = &self.symbols[1..];
+            self.fill += 10;
+        }
+        let value = (self.acc & ((1u128 << width) - 1)) as u64;
+        self.acc >>= width;
+        self.fill -= width;
+        value
+    }
+
+    pub(crate) fn pull_block(&mut self) -> Block
+        requires { 257 ≤ self.old.count }
+        ensures value { packed 64 result.limbs ≡ self.old.bits % 2 ^ 257 }
+        ensures bits { self.new.bits ≡ self.old.bits / 2 ^ 257 }
+        ensures count { self.new.count + 257 ≡ self.old.count }
+    {
+        // Five limbs by name: a loop over four of them and then the last is no shorter.
+        let a = self.pull(64);
+        let b = self.pull(64);
+        let c = self.pull(64);
+        let d = self.pull(64);
+        let top = self.pull(1);
         Block {
-            limbs: [l0, l1, l2, l3, l4],
-        },
-        e,
-    )
+            limbs: [a, b, c, d, top],
+        }
+    }
 }

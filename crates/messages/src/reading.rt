@@ -7,38 +7,24 @@ ghost use Rattle.messages.specs.Messages.{MessageRead, ReadsBack};
 ghost use Rattle.messages.specs.Numbers.{message_of};
 ghost use Rattle.messages.specs.Reading.{Told, read_message};
 
-use crate::bits::{Pen, pull_block};
+use crate::bits::Reader;
 use crate::refusal::MessageRefusal;
 use symbols::first_above;
 use words::word::Word;
-
-fn put(words: &mut [Word], at: usize, four: [Word; 4])
-    requires { at + 4 ≤ length words.old }
-    ensures { take (at + 4) words.new ≡ take at words.old ++ four }
-{
-    words[at] = four[0];
-    words[at + 1] = four[1];
-    words[at + 2] = four[2];
-    words[at + 3] = four[3];
-}
 
 fn read(symbols: &[u16; 514]) -> Result<[Word; 80], MessageRefusal>
     requires { Symbols symbols.now }
     ensures { Told result (read_message 20 0 (packed 10 symbols.now)) }
 {
     let mut words = [Word::Data(0); 80];
-    let mut pen = Pen {
-        acc: 0,
-        fill: 0,
-        at: 0,
-    };
+    let mut reader = Reader::new(symbols);
+    // By the block's number, which a refusal names: no proof is made for a loop over arrays of words as items.
     for b in 0..20 {
-        let (block, next) = pull_block(pen, symbols);
-        pen = next;
-        match block.words() {
-            Ok(four) => put(&mut words, 4 * b, four),
-            Err(refusal) => return Err(MessageRefusal::Block { block: b, refusal }),
-        }
+        let four = reader
+            .pull_block()
+            .words()
+            .map_err(|refusal| MessageRefusal::Block { block: b, refusal })?;
+        words[4 * b..4 * b + 4].copy_from_slice(&four);
     }
     Ok(words)
 }

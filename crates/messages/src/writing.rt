@@ -7,16 +7,9 @@ ghost use Rattle.blocks.specs.Packed.{packed};
 ghost use Rattle.messages.specs.Messages.{MessageOf};
 ghost use Rattle.messages.specs.Numbers.{message as message_number, message_of};
 
-use crate::bits::{Pen, push_block};
+use crate::bits::Writer;
 use blocks::block::Block;
 use words::word::Word;
-
-fn group(words: &[Word], at: usize) -> [Word; 4]
-    requires { at + 4 ≤ length words.now }
-    ensures { result ≡ take 4 (drop at words.now) }
-{
-    [words[at], words[at + 1], words[at + 2], words[at + 3]]
-}
 
 fn write(words: &[Word; 80], out: &mut [u16])
     requires { length out.old ≡ 514 }
@@ -24,14 +17,11 @@ fn write(words: &[Word; 80], out: &mut [u16])
     ensures small { Symbols out.new }
     ensures valid { AllValid (raws words.now) }
 {
-    let mut pen = Pen {
-        acc: 0,
-        fill: 0,
-        at: 0,
-    };
-    for b in 0..20 {
-        let block = Block::of(&group(words, 4 * b));
-        pen = push_block(pen, out, &block);
+    let mut writer = Writer::new(out);
+    let mut rest: &[Word] = words;
+    while let Some((four, after)) = rest.split_first_chunk::<4>() {
+        writer.push_block(&Block::of(four));
+        rest = after;
     }
 }
 

@@ -10,7 +10,7 @@ pub trait Refusal {
 
     ghost placed: { Self → ℕ };
 
-    // The refusal's number, 11 to 79.
+    // The refusal's number, 11 to 79. A number beside the enum, since it is what is printed and told to other programs.
     fn number(&self) -> u8
         ensures { result ≡ numbered self.now };
 
@@ -18,7 +18,7 @@ pub trait Refusal {
     fn place(&self) -> usize
         ensures { result ≡ placed self.now };
 
-    // The layer that refuses.
+    // The layer that refuses, by its number, the tens digit: no enum of layers would say more than the type of the refusal.
     fn layer(&self) -> u8
         ensures { result ≡ layer_of (numbered self.now) }
     {

@@ -6,6 +6,10 @@ use Rattle.port.specs.declared.totals.Totals.{Totals}
 abbrev pub limit : ℕ
 limit = 2 ^ 40
 
+-- the totals where nothing is counted yet
+abbrev pub zeros : Totals
+zeros = record { accepted = 0; dropped = 0; mended = 0 }
+
 abbrev pub Within : Totals → Type 0
 Within a = (a.accepted + a.dropped ≤ limit) × (a.mended ≤ limit)
 

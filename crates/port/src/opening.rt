@@ -10,7 +10,7 @@ use crate::totals::Totals;
 use code::interface::Code;
 
 // Accepted and dropped readings together, and mended symbols, go no further: 2^40.
-pub(crate) const LIMIT: u64 = 0x100_0000_0000;
+pub(crate) const LIMIT: u64 = 1 << 40;
 
 impl<C: Code> Port<C> {
     // A port over the code that goes on counting from these totals. The whole promise stands here.

@@ -10,10 +10,9 @@ use crate::opening::LIMIT;
 use crate::refusal::PortRefusal;
 use crate::state::Port;
 use crate::writing::WORDS;
-use code::interface::{Code, LONGEST_LINE};
-use code::refusal::CodeRefusal;
+use code::interface::{Code, LONGEST_LINE, check_symbols};
 use messages::reading::from_message;
-use symbols::first_above;
+use symbols::MESSAGE_LENGTH;
 use words::word::Word;
 
 impl<C: Code> Port<C> {
@@ -24,9 +23,7 @@ impl<C: Code> Port<C> {
         if words.len() != WORDS || line.len() != self.code.n() {
             return Err(PortRefusal::Length);
         }
-        if let Some(place) = first_above(line) {
-            return Err(PortRefusal::Code(CodeRefusal::Symbol { place }));
-        }
+        check_symbols(line)?;
         let spare = LIMIT - self.code.t() as u64;
         if self.totals.accepted + self.totals.dropped == LIMIT || self.totals.mended > spare {
             return Err(PortRefusal::Full);
@@ -41,7 +38,7 @@ impl<C: Code> Port<C> {
         requires eighty { length words.old ≡ word_count }
         ensures { Searched (C.Code.model self.now.code) line.old words.old line.new words.new result }
     {
-        let mut message = [0u16; 514];
+        let mut message = [0u16; MESSAGE_LENGTH];
         let distance = self.code.mend(line, &mut message)?;
         let found = from_message(&message)?;
         words.copy_from_slice(&found);

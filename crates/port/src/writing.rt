@@ -6,6 +6,7 @@ use crate::refusal::PortRefusal;
 use crate::state::Port;
 use code::interface::Code;
 use messages::writing::to_message;
+use symbols::MESSAGE_LENGTH;
 use words::word::Word;
 
 // A line codes eighty words.
@@ -15,15 +16,13 @@ impl<C: Code> Port<C> {
     fn put(&self, words: &[Word], line: &mut [u16]) -> Result<(), PortRefusal>
         ensures { Written (C.Code.model self.now.code) words.now line.old line.new result }
     {
-        if words.len() != WORDS || line.len() != self.code.n() {
+        let words = words.as_array::<WORDS>().ok_or(PortRefusal::Length)?;
+        if line.len() != self.code.n() {
             return Err(PortRefusal::Length);
         }
-        let mut eighty = [Word::Data(0); WORDS];
-        eighty.copy_from_slice(words);
-        let mut message = [0u16; 514];
-        to_message(&eighty, &mut message);
-        self.code.form(&message, line)?;
-        Ok(())
+        let mut message = [0u16; MESSAGE_LENGTH];
+        to_message(words, &mut message);
+        Ok(self.code.form(&message, line)?)
     }
 
     // Leaves the line of the eighty words in `line`. No total changes.

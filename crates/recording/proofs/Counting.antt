@@ -6,10 +6,16 @@ use Rattle.training.specs.declared.refusals.TrainingRefusal.{TrainingRefusal}
 use Rattle.training.specs.declared.refusals.TrainingRefusal.TheVariants.{Values, Seed, Length, Short, NoMarker, BrokenCell, Reserved, Pattern, NothingFound}
 use Rattle.signal.specs.Signal.{bits_of}
 use Rattle.signal.specs.Calls.{Sized, Read}
+use Rattle.signal.specs.declared.tape.Recording.{Recording}
+use Rattle.signal.specs.Tape.{bytes_of}
 use Rattle.signal.specs.Laws.{ReadsOnce}
 use Rattle.signal.proofs.SignalParts.{length_signal}
 use Rattle.recording.specs.Finding.{FirstMarker, Markerless, FindRefused}
 use Rattle.recording.specs.Surveying.{Good, Counted, over, good, bad}
+
+-- bytes that make a recording are no more than one may have
+pub sized_bytes : (r : Recording) (bytes : List ℕ) → bytes_of r ≡ bytes → Sized bytes
+sized_bytes r bytes e = subst Sized e r.sized
 
 -- a reading is good exactly where a signal stands
 pub good_read : (recording : List ℕ) (p : ℕ) (r : Result Training TrainingRefusal) → Read recording p r → is_ok r ≡ true → Good (bits_of recording) p

@@ -1,17 +1,15 @@
--- The TUI of a marker, and where one stands.
-use Rattle.std.proofs.Common.{◌≡◌, ℕ, ◌+◌, ◌-◌, ◌<◌, ◌≤◌, List, length, get_or, replicate, refl, ◌∙◌, arith}
-use lib.ListN.{get_or-replicate}
-use Rattle.std.proofs.lemmas.List.{get_or_append_left, get_or-append_right}
+-- The levels of a marker, and where one stands.
+use Rattle.std.proofs.Common.{◌≡◌, ℕ, ◌+◌, ◌<◌, ◌≤◌, false, List, length, get_or, sym, arith}
+use Rattle.std.proofs.Math.ListN.{get_or-map}
+use Rattle.std.specs.Int.{from_bool}
 use Rattle.signal.specs.Signal.{Stands, marker}
 use Rattle.signal.proofs.Whole.{length_marker}
+use Rattle.recording.specs.declared.finding.TheConstants.{MARKER}
 
-pub marker_one : (k : ℕ) → k < 16 → get_or marker k 0 ≡ 1
+-- the constant of the code has the levels of a marker
+pub level_of_marker : (k : ℕ) → from_bool (get_or MARKER k false) ≡ get_or marker k 0
 unfolding marker
-marker_one k h = get_or_append_left (replicate 16 1) (replicate 16 0) 0 k h ∙ get_or-replicate 16 k 1 0 h
-
-pub marker_zero : (k : ℕ) → 16 ≤ k → k < 32 → get_or marker k 0 ≡ 0
-unfolding marker
-marker_zero k h l = get_or-append_right (replicate 16 1) (replicate 16 0) 16 k 0 refl h ∙ get_or-replicate 16 (k - 16) 0 0 (omega arith)
+level_of_marker k = sym (get_or-map from_bool MARKER k false)
 
 module _ (bits : List ℕ) (p : ℕ) where
   pub marker_fits : Stands marker bits p → p + 32 ≤ length bits

@@ -1,5 +1,5 @@
 // What a survey answers.
-#[derive(Clone, Copy, PartialEq, Eq, Debug, Drop)]
+#[derive(Clone, Copy, PartialEq, Eq, Debug, Default, Drop)]
 pub struct Survey {
     pub good: usize,
     pub bad: usize,

@@ -1,5 +1,5 @@
 -- A line with errors taken from it: its length, its symbols, its power sums, and one error taken after the other.
-use Rattle.std.proofs.Common.{◌≡◌, ℕ, zero, suc, ◌+◌, ◌-◌, ◌<◌, ◌≤◌, Bool, true, false, cond, eqb, ◌≢◌, List, [], ◌∷◌, length, get_or, drop, set, sym, refl, ap, ◌∙◌, subst, ap₂, le_of_suc-le-suc, not-suc-le-zero, zero-add, arith}
+use Rattle.std.proofs.Common.{◌≡◌, ℕ, zero, suc, ◌+◌, ◌-◌, ◌<◌, ◌≤◌, Bool, true, false, cond, eqb, ◌≢◌, List, [], ◌∷◌, length, get_or, drop, set, sym, refl, ap, ◌∙◌, subst, ap₂, le_of_suc-le-suc, not-suc-le-zero, zero-add, arith, lit≤}
 use lib.Bits.{bit_xor, xor_assoc, xor_self, xor_zero_r, xor_lt}
 use Rattle.std.proofs.lemmas.List.{drop_more, drop_all}
 use Rattle.code.specs.Distance.{distance}
@@ -9,7 +9,9 @@ use Rattle.field.proofs.Laws.{mul_xor_l}
 use Rattle.reed_solomon_algebra.specs.Polynomials.{Elements}
 use Rattle.reed_solomon_algebra.specs.Terms.{Term, power_sum, Small, Apart, Distinct, Away, Differ, locators, terms}
 use Rattle.reed_solomon_algebra.proofs.Locators.{locators_length, locators_at, locators_differ}
-use Rattle.reed_solomon_decoder.specs.Errors.{at, located}
+use Rattle.reed_solomon_decoder.specs.Errors.{at}
+use Rattle.reed_solomon_decoder.specs.Listed.{listed}
+use Rattle.reed_solomon_decoder.specs.declared.errors.Error.{Error}
 use Rattle.reed_solomon_decoder.proofs.Places.{eq_true, eq_false}
 use Rattle.reed_solomon_decoder.proofs.Values.{at_lt}
 use Rattle.reed_solomon_decoder.proofs.Composition.{read_at}
@@ -129,57 +131,46 @@ corrected_none (l ∷ ls) (x ∷ xs) = ap₂ (λ (y : ℕ) (r : List ℕ). y ∷
 
 -- ---- a turn of the correction
 
-pub terms_more : (n : ℕ) (vs ps : List ℕ) (k : ℕ) → k < length vs → k < length ps
-    → terms (drop k vs) (located n (drop k ps))
-    ≡ record { coef = get_or vs k 0; place = pow 2 (n - 1 - get_or ps k 0) } ∷ terms (drop (k + 1) vs) (located n (drop (k + 1) ps))
-unfolding terms located
-terms_more n vs ps k hv hp = ap₂ (λ (v p : List ℕ). terms v (located n p)) (drop_more vs k 0 hv) (drop_more ps k 0 hp)
+-- an error at its place, as a term at a locator
+abbrev pub as_term : Error → Term
+as_term e = record { coef = e.value; place = pow 2 (527 - e.place.index) }
 
-nothing : (vs : List ℕ) → terms vs [] ≡ []
-unfolding terms
-nothing [] = refl
-nothing (v ∷ vs) = refl
+pub listed_more : (es : List Error) (k : ℕ) (e : Error) → k < length es → e ≡ get_or es k e → listed (drop k es) ≡ as_term e ∷ listed (drop (k + 1) es)
+listed_more es k e h is = ap listed (drop_more es k e h) ∙ ap (λ (d : Error). as_term d ∷ listed (drop (k + 1) es)) (sym is)
 
-pub terms_all : (n : ℕ) (vs ps : List ℕ) (k : ℕ) → length ps ≤ k → terms (drop k vs) (located n (drop k ps)) ≡ []
-unfolding located
-terms_all n vs ps k h = ap (λ (p : List ℕ). terms (drop k vs) (located n p)) (drop_all k ps h) ∙ nothing (drop k vs)
+-- the errors before the k-th are taken from the line already: a turn for the k-th, which is e
+module _ (es : List Error) (k : ℕ) (e : Error) (h : k < length es) (is : e ≡ get_or es k e) where
+  first_place : get_or (locators 528) e.place.index 0 ≡ pow 2 (527 - e.place.index)
+  first_place = locators_at 528 e.place.index e.place.within
 
--- the errors from the k-th on
-abbrev pub errors_from : ℕ → List ℕ → List ℕ → ℕ → List Term
-errors_from n vs ps k = terms (drop k vs) (located n (drop k ps))
+  inside : e.place.index < length (locators 528)
+  inside = subst (λ (m : ℕ). e.place.index < m) (sym (locators_length 528)) e.place.within
 
-module _ (n : ℕ) (vs ps : List ℕ) (k : ℕ) (hv : k < length vs) (hp : k < length ps) (short : n ≤ 1023) (here : get_or ps k 0 < n) where
-  first_place : get_or (locators n) (get_or ps k 0) 0 ≡ pow 2 (n - 1 - get_or ps k 0)
-  first_place = locators_at n (get_or ps k 0) here
+  pub turn_distinct : Distinct (listed (drop k es)) → Apart (pow 2 (527 - e.place.index)) (listed (drop (k + 1) es)) × Distinct (listed (drop (k + 1) es))
+  turn_distinct d = subst Distinct (listed_more es k e h is) d
 
-  inside : get_or ps k 0 < length (locators n)
-  inside = subst (λ (m : ℕ). get_or ps k 0 < m) (sym (locators_length n)) here
-
-  pub turn_distinct : Distinct (errors_from n vs ps k) → Apart (pow 2 (n - 1 - get_or ps k 0)) (errors_from n vs ps (k + 1)) × Distinct (errors_from n vs ps (k + 1))
-  turn_distinct d = subst Distinct (terms_more n vs ps k hv hp) d
-
-  pub turn_set : (line : List ℕ) → length line ≡ n
-      → corrected (errors_from n vs ps k) line (locators n)
-      ≡ corrected (errors_from n vs ps (k + 1)) (set line (get_or ps k 0) (bit_xor (get_or line (get_or ps k 0) 0) (get_or vs k 0))) (locators n)
+  pub turn_set : (line : List ℕ) → length line ≡ 528
+      → corrected (listed (drop k es)) line (locators 528)
+      ≡ corrected (listed (drop (k + 1) es)) (set line e.place.index (bit_xor (get_or line e.place.index 0) e.value)) (locators 528)
   turn_set line l =
-      ap (λ (e : List Term). corrected e line (locators n)) (terms_more n vs ps k hv hp)
-      ∙ corrected_one (record { coef = get_or vs k 0; place = pow 2 (n - 1 - get_or ps k 0) }) (errors_from n vs ps (k + 1)) line (locators n) (get_or ps k 0)
-      (l ∙ sym (locators_length n)) (locators_differ n short) inside first_place
+      ap (λ (ts : List Term). corrected ts line (locators 528)) (listed_more es k e h is)
+      ∙ corrected_one (as_term e) (listed (drop (k + 1) es)) line (locators 528) e.place.index
+      (l ∙ sym (locators_length 528)) (locators_differ 528 (lit≤ tt)) inside first_place
 
-  pub turn_skip : (line : List ℕ) → get_or vs k 0 ≡ 0
-      → corrected (errors_from n vs ps k) line (locators n) ≡ corrected (errors_from n vs ps (k + 1)) line (locators n)
+  pub turn_skip : (line : List ℕ) → e.value ≡ 0
+      → corrected (listed (drop k es)) line (locators 528) ≡ corrected (listed (drop (k + 1) es)) line (locators 528)
   turn_skip line z =
-      ap (λ (e : List Term). corrected e line (locators n)) (terms_more n vs ps k hv hp)
-      ∙ corrected_nothing (record { coef = get_or vs k 0; place = pow 2 (n - 1 - get_or ps k 0) }) (errors_from n vs ps (k + 1)) line (locators n) z
+      ap (λ (ts : List Term). corrected ts line (locators 528)) (listed_more es k e h is)
+      ∙ corrected_nothing (as_term e) (listed (drop (k + 1) es)) line (locators 528) z
 
-  pub turn_count : (line : List ℕ) → length line ≡ n → get_or vs k 0 ≢ 0 → Distinct (errors_from n vs ps k)
-      → distance line (corrected (errors_from n vs ps k) line (locators n))
-      ≡ 1 + distance line (corrected (errors_from n vs ps (k + 1)) line (locators n))
+  pub turn_count : (line : List ℕ) → length line ≡ 528 → e.value ≢ 0 → Distinct (listed (drop k es))
+      → distance line (corrected (listed (drop k es)) line (locators 528))
+      ≡ 1 + distance line (corrected (listed (drop (k + 1) es)) line (locators 528))
   turn_count line l nz d =
-      ap (λ (e : List Term). distance line (corrected e line (locators n))) (terms_more n vs ps k hv hp)
-      ∙ distance_one (record { coef = get_or vs k 0; place = pow 2 (n - 1 - get_or ps k 0) }) (errors_from n vs ps (k + 1)) line (locators n) (get_or ps k 0)
-      (l ∙ sym (locators_length n)) (locators_differ n short) inside first_place nz (turn_distinct d).0
+      ap (λ (ts : List Term). distance line (corrected ts line (locators 528))) (listed_more es k e h is)
+      ∙ distance_one (as_term e) (listed (drop (k + 1) es)) line (locators 528) e.place.index
+      (l ∙ sym (locators_length 528)) (locators_differ 528 (lit≤ tt)) inside first_place nz (turn_distinct d).0
 
-pub turns_done : (n : ℕ) (vs ps line : List ℕ) (k : ℕ) → length ps ≤ k → corrected (errors_from n vs ps k) line (locators n) ≡ line
-turns_done n vs ps line k h =
-    ap (λ (e : List Term). corrected e line (locators n)) (terms_all n vs ps k h) ∙ corrected_none line (locators n)
+pub turns_done : (es : List Error) (line : List ℕ) (k : ℕ) → length es ≤ k → corrected (listed (drop k es)) line (locators 528) ≡ line
+turns_done es line k h =
+    ap (λ (l : List Error). corrected (listed l) line (locators 528)) (drop_all k es h) ∙ corrected_none line (locators 528)

@@ -1,4 +1,5 @@
 -- Lemmas, by topic.
+pub mod Filled
 pub mod Multiples
 pub mod Register
 pub mod Rests

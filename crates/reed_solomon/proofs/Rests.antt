@@ -8,7 +8,7 @@ use Rattle.field.proofs.Linear.{xor_zero_eq}
 use Rattle.reed_solomon_algebra.specs.Polynomials.{value, plus, Elements}
 use Rattle.reed_solomon_algebra.specs.CodeWords.{CodeWord, line_length}
 use Rattle.reed_solomon_algebra.specs.Division.{parity, encode}
-use Rattle.reed_solomon_algebra.proofs.Polynomials.{plus_at, plus_length}
+use Rattle.reed_solomon_algebra.proofs.Polynomials.{plus_at}
 use Rattle.reed_solomon_algebra.proofs.Generator.{elements}
 use Rattle.reed_solomon_algebra.proofs.Divides.{zeros_at}
 use Rattle.reed_solomon_algebra.proofs.Encodes.{rest_length, whole_value, encode_word}
@@ -56,16 +56,6 @@ module _ (t : ℕ) (small : t ≤ 15) (line : List ℕ) (long : length line ≡ 
           ext_get_or 0 (parity t (take 514 line)) (drop 514 line) (parity_length t (take 514 line) ∙ sym tail_length)
           (λ i h. xor_zero_eq (get_or (parity t (take 514 line)) i 0) (get_or (drop 514 line) i 0)
           (sym (plus_at (parity t (take 514 line)) (drop 514 line) i) ∙ ap (λ (l : List ℕ). get_or l i 0) none ∙ zeros_at (2 * t) i))
-
-  -- symbol by symbol, the parity with the line's tail
-  pub rest_is : (rest : List ℕ) → length rest ≡ 2 * t
-      → ((i : ℕ) → i < 2 * t → get_or rest i 0 ≡ bit_xor (get_or (parity t (take 514 line)) i 0) (get_or line (514 + i) 0)) → rest ≡ rest_of t line
-  rest_is rest wide each =
-      ext_get_or 0 rest (rest_of t line)
-      (wide ∙ sym (plus_length (parity t (take 514 line)) (drop 514 line) (omega (arith, parity_length t (take 514 line), tail_length)) ∙ tail_length))
-      (λ i h. each i (omega arith)
-      ∙ ap (bit_xor (get_or (parity t (take 514 line)) i 0)) (sym (get_or-drop 514 line i 0))
-      ∙ sym (plus_at (parity t (take 514 line)) (drop 514 line) i))
 
 -- ---- the loop of a value
 

@@ -7,13 +7,11 @@ ghost use Rattle.std.proofs.Common.{lit≤};
 ghost use Rattle.reed_solomon_algebra.proofs.Encodes;
 
 use crate::forming::write_word;
-use crate::repair::repair;
-use code::interface::{Code, check_lengths, check_symbols};
+use crate::reading::read_word;
+use code::interface::{Code, check_symbols};
 use code::refusal::CodeRefusal;
+pub use reed_solomon_decoder::line::LINE_LENGTH;
 use symbols::MESSAGE_LENGTH;
-
-// How many symbols a line has.
-pub const LINE_LENGTH: usize = 528;
 
 // Up to how many wrong symbols are mended.
 pub const MENDED: usize = 7;
@@ -49,21 +47,19 @@ impl Code for ReedSolomon {
         ensures formed { Formed (reed_solomon_code 7) message.now line.old line.new result }
         ensures word { OnOk result (WordOf 7 message.now line.new) }
     {
-        check_lengths(LINE_LENGTH, message, line)?;
+        let message: &[u16; MESSAGE_LENGTH] = message.as_array().ok_or(CodeRefusal::Length)?;
+        let line: &mut [u16; LINE_LENGTH] = line.as_mut_array().ok_or(CodeRefusal::Length)?;
         check_symbols(message)?;
         write_word(message, line);
         Ok(())
     }
 
     fn mend(&self, line: &mut [u16], message: &mut [u16]) -> Result<usize, CodeRefusal> {
-        check_lengths(LINE_LENGTH, message, line)?;
+        let message: &mut [u16; MESSAGE_LENGTH] = message
+            .as_mut_array()
+            .ok_or(CodeRefusal::Length)?;
+        let line: &mut [u16; LINE_LENGTH] = line.as_mut_array().ok_or(CodeRefusal::Length)?;
         check_symbols(line)?;
-        match repair(line) {
-            Some(wrong) => {
-                message.copy_from_slice(&line[0..MESSAGE_LENGTH]);
-                Ok(wrong)
-            }
-            None => Err(CodeRefusal::NoCodeWord),
-        }
+        read_word(line, message).ok_or(CodeRefusal::NoCodeWord)
     }
 }

@@ -5,6 +5,7 @@ pub mod codec;
 mod correction;
 mod division;
 mod forming;
+mod reading;
 mod repair;
 mod rows;
 mod syndromes;

@@ -5,13 +5,15 @@ ghost use Rattle.reed_solomon_algebra.specs.CodeWords.{polynomial};
 ghost use Rattle.reed_solomon_algebra.specs.Polynomials.{value};
 
 use field::{alpha_power, product};
+use std::array;
 
+// By Horner's rule, from the highest coefficient on.
 fn value_at(rest: &[u16; 14], x: u16) -> u16
     ensures { result ≡ value x (polynomial rest.now) }
 {
     let mut sum = 0;
-    for k in 0..14usize {
-        sum = rest[k] ^ product(x, sum);
+    for symbol in rest {
+        sum = *symbol ^ product(x, sum);
     }
     sum
 }
@@ -20,9 +22,5 @@ pub(crate) fn syndromes(rest: &[u16; 14]) -> [u16; 14]
     ensures values { (j : ℕ) → j < 14 → slice_index result j ≡ value (pow α j) (polynomial rest.now) }
     ensures wide { length result ≡ 14 }
 {
-    let mut all = [0; 14];
-    for j in 0..14usize {
-        all[j] = value_at(rest, alpha_power(j));
-    }
-    all
+    array::from_fn(|j| value_at(rest, alpha_power(j)))
 }

@@ -47,9 +47,6 @@ module _ (φ : ℕ → ℕ → ℕ) (adds : (a b p : ℕ) → φ (bit_xor a b) p
       (ap (λ (b : Bool). φ (cond b d 0) x) (eq_false p x (λ e. a.0 (sym e))) ∙ none x)
       (spike_away d p xs a.1)
 
-  away_of : (p x : ℕ) (xs : List ℕ) → x ≡ p → Away x xs → Away p xs
-  away_of p x xs e a = subst (λ (y : ℕ). Away y xs) e a
-
   spike_has : (d p : ℕ) (xs : List ℕ) → Differ xs → Has p xs → sum_by φ (spike d p xs) ≡ φ d p
   unfolding sum_by spike
   spike_has d p [] f h = absurd h

@@ -10,7 +10,8 @@ use Rattle.field.proofs.Powers.{pow_zero, pow_suc, pow_add, pow_lt, pow_pos, mul
 use Rattle.field.proofs.Logs.{pow_whole, pow_mod}
 use Rattle.reed_solomon_algebra.specs.Polynomials.{value, Elements}
 use Rattle.reed_solomon_algebra.proofs.Locators.{pow_pow}
-use Rattle.reed_solomon_decoder.specs.Exponents.{term_of, terms_sum, Lowered}
+use Rattle.reed_solomon_decoder.specs.Errors.{sum_of}
+use Rattle.reed_solomon_decoder.specs.Exponents.{term_of, Lowered}
 use Rattle.reed_solomon_decoder.proofs.Weighing.{value_lt}
 
 pub term_power : (e : ℕ) → e < 1023 → term_of e ≡ pow 2 e
@@ -62,56 +63,56 @@ lowered_around e k l h =
 
 -- ---- all of them
 
-pub lowered_start : (u es : List ℕ) (n k : ℕ) → term_of (get_or es k 0) ≡ mul (get_or u k 0) (pow 2 (n * k))
-    → mul (pow 2 k) (term_of (get_or es k 0)) ≡ mul (get_or u k 0) (pow (pow 2 (suc n)) k)
-lowered_start u es n k e =
+pub lowered_start : (u ts : List ℕ) (n k : ℕ) → get_or ts k 0 ≡ mul (get_or u k 0) (pow 2 (n * k))
+    → mul (pow 2 k) (get_or ts k 0) ≡ mul (get_or u k 0) (pow (pow 2 (suc n)) k)
+lowered_start u ts n k e =
     ap (mul (pow 2 k)) e ∙ mul_left_comm (pow 2 k) (get_or u k 0) (pow 2 (n * k))
     ∙ ap (mul (get_or u k 0)) (sym (pow_add 2 k (n * k)) ∙ ap (pow 2) (omega arith) ∙ sym (pow_pow 2 (suc n) k))
 
 -- a place lower, the terms are those at the locator
-pub term_here : (u : List ℕ) (n : ℕ) (es : List ℕ) → Lowered u (suc n) es → (k : ℕ) → k < length u
-    → term_of (get_or es k 0) ≡ mul (get_or u k 0) (pow (pow 2 n) k)
-term_here u n es low k h =
-    mul_cancel (pow 2 k) (term_of (get_or es k 0)) (mul (get_or u k 0) (pow (pow 2 n) k))
-    (pow_pos 2 k (lit< tt) (lit< tt)) (pow_lt 2 k) (term_lt (get_or es k 0)) (mul_lt (get_or u k 0) (pow (pow 2 n) k))
+pub term_here : (u : List ℕ) (n : ℕ) (ts : List ℕ) → Elements ts → Lowered u (suc n) ts → (k : ℕ) → k < length u
+    → get_or ts k 0 ≡ mul (get_or u k 0) (pow (pow 2 n) k)
+term_here u n ts b low k h =
+    mul_cancel (pow 2 k) (get_or ts k 0) (mul (get_or u k 0) (pow (pow 2 n) k))
+    (pow_pos 2 k (lit< tt) (lit< tt)) (pow_lt 2 k) (b k) (mul_lt (get_or u k 0) (pow (pow 2 n) k))
     (low k h
     ∙ ap (mul (get_or u k 0))
     (pow_pow 2 (suc n) k ∙ ap (pow 2) (omega arith) ∙ pow_add 2 k (k * n) ∙ ap (mul (pow 2 k)) (sym (pow_pow 2 n k)))
     ∙ mul_left_comm (get_or u k 0) (pow 2 k) (pow (pow 2 n) k))
 
-pub lowered_next : (u : List ℕ) (n : ℕ) (es fs : List ℕ) → Lowered u (suc n) es
-    → ((k : ℕ) → k < length u → mul (pow 2 k) (term_of (get_or fs k 0)) ≡ term_of (get_or es k 0)) → Lowered u n fs
-lowered_next u n es fs low next k h = next k h ∙ term_here u n es low k h
+pub lowered_next : (u : List ℕ) (n : ℕ) (ts fs : List ℕ) → Elements ts → Lowered u (suc n) ts
+    → ((k : ℕ) → k < length u → mul (pow 2 k) (get_or fs k 0) ≡ get_or ts k 0) → Lowered u n fs
+lowered_next u n ts fs b low next k h = next k h ∙ term_here u n ts b low k h
 
-sum_from : (es u : List ℕ) (x m : ℕ) → length es ≡ length u
-    → ((k : ℕ) → k < length u → term_of (get_or es k 0) ≡ mul (get_or u k 0) (pow x (m + k)))
-    → terms_sum es ≡ mul (pow x m) (value x u)
-unfolding terms_sum value
+sum_from : (ts u : List ℕ) (x m : ℕ) → length ts ≡ length u
+    → ((k : ℕ) → k < length u → get_or ts k 0 ≡ mul (get_or u k 0) (pow x (m + k)))
+    → sum_of ts ≡ mul (pow x m) (value x u)
+unfolding sum_of value
 sum_from [] [] x m l h = sym (mul_zero_r (pow x m))
 sum_from [] (a ∷ u) x m l h = let z : ⊥ = omega arith in absurd z
-sum_from (e ∷ es) [] x m l h = let z : ⊥ = omega arith in absurd z
-sum_from (e ∷ es) (a ∷ u) x m l h =
+sum_from (e ∷ ts) [] x m l h = let z : ⊥ = omega arith in absurd z
+sum_from (e ∷ ts) (a ∷ u) x m l h =
     ap₂ bit_xor
     (h 0 (omega arith) ∙ ap (λ (i : ℕ). mul a (pow x i)) (add-zero m) ∙ mul_comm a (pow x m))
-    (sum_from es u x (suc m) (omega arith) (λ k q. h (suc k) (omega arith) ∙ ap (λ (i : ℕ). mul (get_or u k 0) (pow x i)) (add-suc m k ∙ sym (suc-add m k)))
+    (sum_from ts u x (suc m) (omega arith) (λ k q. h (suc k) (omega arith) ∙ ap (λ (i : ℕ). mul (get_or u k 0) (pow x i)) (add-suc m k ∙ sym (suc-add m k)))
     ∙ ap (λ (y : ℕ). mul y (value x u)) (pow_suc x m ∙ mul_comm x (pow x m)) ∙ mul_assoc (pow x m) x (value x u))
     ∙ sym (mul_xor_r (pow x m) a (mul x (value x u)))
 
-pub sum_value : (u : List ℕ) (n : ℕ) (es : List ℕ) → Elements u → length es ≡ length u → Lowered u (suc n) es
-    → terms_sum es ≡ value (pow 2 n) u
-sum_value u n es b l low =
-    sum_from es u (pow 2 n) 0 l (λ k h. term_here u n es low k h ∙ ap (λ (i : ℕ). mul (get_or u k 0) (pow (pow 2 n) i)) (sym (zero-add k)))
-    ∙ ap (λ (y : ℕ). mul y (value (pow 2 n) u)) (pow_zero (pow 2 n)) ∙ mul_one_l (value (pow 2 n) u) (value_lt u (pow 2 n) b)
+pub sum_value : (u : List ℕ) (n : ℕ) (ts : List ℕ) → Elements u → Elements ts → length ts ≡ length u → Lowered u (suc n) ts
+    → sum_of ts ≡ value (pow 2 n) u
+sum_value u n ts bu b l low =
+    sum_from ts u (pow 2 n) 0 l (λ k h. term_here u n ts b low k h ∙ ap (λ (i : ℕ). mul (get_or u k 0) (pow (pow 2 n) i)) (sym (zero-add k)))
+    ∙ ap (λ (y : ℕ). mul y (value (pow 2 n) u)) (pow_zero (pow 2 n)) ∙ mul_one_l (value (pow 2 n) u) (value_lt u (pow 2 n) bu)
 
 -- ---- the loop of the sum
 
-pub sum_turn : (es : List ℕ) (k sum all : ℕ) → k < length es → bit_xor sum (terms_sum (drop k es)) ≡ all
-    → bit_xor (bit_xor sum (term_of (get_or es k 0))) (terms_sum (drop (k + 1) es)) ≡ all
-unfolding terms_sum
-sum_turn es k sum all h e =
-    xor_assoc sum (term_of (get_or es k 0)) (terms_sum (drop (k + 1) es))
-    ∙ ap (bit_xor sum) (sym (ap terms_sum (drop_more es k 0 h))) ∙ e
+pub sum_turn : (xs : List ℕ) (k v sum all d : ℕ) → k < length xs → v ≡ get_or xs k d → bit_xor sum (sum_of (drop k xs)) ≡ all
+    → bit_xor (bit_xor sum v) (sum_of (drop (k + 1) xs)) ≡ all
+unfolding sum_of
+sum_turn xs k v sum all d h is e =
+    xor_assoc sum v (sum_of (drop (k + 1) xs))
+    ∙ ap (bit_xor sum) (ap (λ (y : ℕ). bit_xor y (sum_of (drop (k + 1) xs))) is ∙ sym (ap sum_of (drop_more xs k d h))) ∙ e
 
-pub sum_end : (es : List ℕ) (k sum all : ℕ) → length es ≤ k → bit_xor sum (terms_sum (drop k es)) ≡ all → sum ≡ all
-unfolding terms_sum
-sum_end es k sum all h e = sym (xor_zero_r sum) ∙ ap (λ (l : List ℕ). bit_xor sum (terms_sum l)) (sym (drop_all k es h)) ∙ e
+pub sum_end : (xs : List ℕ) (k sum all : ℕ) → length xs ≤ k → bit_xor sum (sum_of (drop k xs)) ≡ all → sum ≡ all
+unfolding sum_of
+sum_end xs k sum all h e = sym (xor_zero_r sum) ∙ ap (λ (l : List ℕ). bit_xor sum (sum_of l)) (sym (drop_all k xs h)) ∙ e

@@ -1,6 +1,11 @@
 -- Elimination of one window from the rows.
-use Rattle.std.proofs.Common.{◌≡◌, ℕ, suc, ◌+◌, ◌<◌, ◌≤◌, ◌≢◌, List, [], ◌∷◌, length, get_or, drop, sym, ap, ◌∙◌, subst, ap₂, not-suc-le-zero, arith, lit<}
+use Rattle.std.proofs.Common.{◌≡◌, ℕ, zero, suc, ◌+◌, ◌<◌, ◌≤◌, ◌≢◌, ◌==◌, eqb, lt-ltb, Bool, true, false, cond, not, nat_lt, inl, inr, Some, None, Option, position, List, [], ◌∷◌, length, length-take-le, get_or, get_or-take, take, drop, sym, refl, ap, ◌∙◌, subst, ap₂, not-suc-le-zero, arith, lit<}
 use native.Mathlib.Decide.{dec_lt, ℕ_discrete}
+use Rattle.std.specs.List.{position_or_len}
+use Rattle.reed_solomon_decoder.proofs.Places.{eq_false}
+use Rattle.std.proofs.lemmas.Bool.{cases_lt}
+use Rattle.std.proofs.lemmas.List.Quantifiers.{position-Some}
+use Rattle.std.proofs.lemmas.List.Sums.{fails_before_first}
 use lib.Bits.{bit_xor, xor_lt, xor_self, xor_zero_r}
 use Rattle.field.proofs.Linear.{xor4}
 use Rattle.field.proofs.Laws.{mul_xor_r, mul_xor_l, mul_lt, mul_comm, mul_assoc, mul_one_r, mul_zero_r}
@@ -177,3 +182,52 @@ kernel_start w n s rows u =
         (λ g l. let ne : i ≢ g = omega arith in (u g (omega arith)).other i ne),
       );
     }
+
+-- ---- the pivot
+
+position-None : {X : Type 0} (p : X → Bool) (xs : List X) (k : ℕ) (d : X) → position p xs ≡ None → k < length xs → p (get_or xs k d) ≡ false
+position-None p xs k d e h = elim (cases_lt (position_or_len p xs) (length xs)) [
+  | inl l ↦ let t : nat_lt (position_or_len p xs) (length xs) ≡ true = lt-ltb (position_or_len p xs) (length xs) l in
+      absurd (no_some (sym (ap (λ (b : Bool). cond b (Some (position_or_len p xs)) None) t) ∙ e))
+  | inr r ↦ fails_before_first p xs k d (omega arith)
+]
+  where
+    no_some : {n : ℕ} → Some n ≡ None → ⊥
+    no_some e = cc
+
+module _ (rows : List (List ℕ)) (v : List ℕ) (last : ℕ) (here : last ≤ length rows) where
+  abbrev pub left : List ℕ → Bool
+  left row = not (dot row v == 0)
+
+  abbrev pub first : Option ℕ
+  first = position left (take last rows)
+
+  nothing_left : (n : ℕ) → not (n == 0) ≡ false → n ≡ 0
+  nothing_left zero e = refl
+  nothing_left (suc n) e = let none : eqb (suc n) 0 ≡ false = eq_false (suc n) 0 (λ q. absurd (omega arith)) in absurd (true_not_false (sym (ap not none) ∙ e))
+    where
+      true_not_false : true ≡ false → ⊥
+      true_not_false q = cc
+
+  something_left : (n : ℕ) → not (n == 0) ≡ true → 0 < n
+  something_left zero e = cc
+  something_left (suc n) e = omega arith
+
+  pub pivot_within : (i : ℕ) → first ≡ Some i → i < last
+  pivot_within i e = omega (arith, (position-Some left (take last rows) i [] e).0, length-take-le last rows here)
+
+  pub pivot_found : (i : ℕ) → first ≡ Some i → 0 < dot (get_or rows i []) v
+  pivot_found i e =
+      something_left (dot (get_or rows i []) v)
+      (subst (λ (row : List ℕ). left row ≡ true) (get_or-take last rows i [] (pivot_within i e)) (position-Some left (take last rows) i [] e).1)
+
+  pub pivot_clear : (i : ℕ) → first ≡ Some i → (k : ℕ) → k < i → dot (get_or rows k []) v ≡ 0
+  pivot_clear i e k h =
+      nothing_left (dot (get_or rows k []) v)
+      (subst (λ (row : List ℕ). left row ≡ false) (get_or-take last rows k [] (omega (arith, pivot_within i e))) ((position-Some left (take last rows) i [] e).2 k h))
+
+  pub none_clear : first ≡ None → (k : ℕ) → k < last → dot (get_or rows k []) v ≡ 0
+  none_clear e k h =
+      nothing_left (dot (get_or rows k []) v)
+      (subst (λ (row : List ℕ). left row ≡ false) (get_or-take last rows k [] h)
+      (position-None left (take last rows) k [] e (omega (arith, length-take-le last rows here))))

@@ -2,4 +2,5 @@
 pub mod Errors
 pub mod Kernel
 pub mod Exponents
+pub mod Listed
 pub mod Decoded

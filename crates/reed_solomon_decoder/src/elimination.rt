@@ -1,18 +1,18 @@
 // A polynomial that is zero at every error, by elimination on the windows of the syndromes.
-ghost use Rattle.std.specs.Prelude.{◌≡◌, ℕ, ◌+◌, ◌<◌, ◌≤◌, ◌≢◌, List, [], length, drop, slice_index, slice_index_or};
+ghost use Rattle.std.specs.Prelude.{◌≡◌, ℕ, ◌+◌, ◌<◌, ◌≤◌, ◌≢◌, ◌==◌, not, length, drop, position, slice_index};
 ghost use Rattle.reed_solomon_decoder.specs.Errors.{dot};
 ghost use Rattle.reed_solomon_decoder.specs.Kernel.{Plus, Kernel, Locator};
 
 use field::{inverse, product};
+use std::array;
 
 // The sum of the products of the coefficients with what stands at their places in `s`.
 fn dot_with(p: &[u16], s: &[u16]) -> u16
-    requires { length p.now ≤ length s.now }
     ensures { result ≡ dot p.now s.now }
 {
     let mut sum = 0;
-    for k in 0..p.len() {
-        sum ^= product(p[k], s[k]);
+    for (c, b) in p.iter().zip(s) {
+        sum ^= product(*c, *b);
     }
     sum
 }
@@ -22,11 +22,7 @@ fn reduced(row: &[u16; 8], by: &[u16; 8], c: u16) -> [u16; 8]
     ensures sum { Plus result row.now c by.now }
     ensures wide { length result ≡ 8 }
 {
-    let mut out = *row;
-    for k in 0..8usize {
-        out[k] ^= product(c, by[k]);
-    }
-    out
+    array::from_fn(|k| row[k] ^ product(c, by[k]))
 }
 
 // What is left of the row at the window of the syndromes that begins at `j`.
@@ -37,19 +33,12 @@ fn residual(row: &[u16; 8], s: &[u16; 14], j: usize) -> u16
     dot_with(row, &s[j..])
 }
 
-// The first of the rows below `last` that has something left at the window `j`, or `last`.
-fn pivot_at(rows: &[[u16; 8]; 8], s: &[u16; 14], j: usize, last: usize) -> usize
-    requires { (last < 8) × (j < 7) }
-    ensures within { result ≤ last }
-    ensures clear { (i : ℕ) → i < result → dot (slice_index_or rows.now i []) (drop j s.now) ≡ 0 }
-    ensures found { result < last → 0 < dot (slice_index_or rows.now result []) (drop j s.now) }
+// The first of the rows that has something left at the window `j`.
+fn pivot_in(rows: &[[u16; 8]], s: &[u16; 14], j: usize) -> Option<usize>
+    requires { j < 7 }
+    ensures { result ≡ position (λ row. not (dot row (drop j s.now) == 0)) rows.now }
 {
-    for i in 0..last {
-        if residual(&rows[i], s, j) != 0 {
-            return i;
-        }
-    }
-    last
+    rows.iter().position(|row| residual(row, s, j) != 0)
 }
 
 // Takes the window that begins at `j` from the rows up to `last`, which costs one row.
@@ -58,9 +47,12 @@ fn eliminate(rows: &mut [[u16; 8]; 8], s: &[u16; 14], j: usize, last: usize)
     requires kernel { Kernel 8 s.now j (last + 1) rows.old }
     ensures { Kernel 8 s.now (j + 1) last rows.new }
 {
-    let first = pivot_at(rows, s, j, last);
+    let Some(first) = pivot_in(&rows[..last], s, j) else {
+        return;
+    };
     let pivot = rows[first];
     let scale = inverse(residual(&pivot, s, j));
+    // By index: each row is made in place of the one after it.
     for i in first..last {
         let next = rows[i + 1];
         let c = product(residual(&next, s, j), scale);
@@ -70,24 +62,19 @@ fn eliminate(rows: &mut [[u16; 8]; 8], s: &[u16; 14], j: usize, last: usize)
 
 // The polynomial x to the `i`.
 fn unit(i: usize) -> [u16; 8]
-    requires { i < 8 }
     ensures wide { length result ≡ 8 }
-    ensures here { slice_index result i ≡ 1 }
+    ensures here { i < 8 → slice_index result i ≡ 1 }
     ensures other { (k : ℕ) → k ≢ i → slice_index result k ≡ 0 }
 {
-    let mut row = [0; 8];
-    row[i] = 1;
-    row
+    array::from_fn(|k| if k == i { 1 } else { 0 })
 }
 
 // A polynomial of degree at most 7, not zero, that annihilates the seven windows of the syndromes.
 pub(crate) fn locator(s: &[u16; 14]) -> [u16; 8]
     ensures { Locator 8 s.now 7 result }
 {
-    let mut rows = [[0; 8]; 8];
-    for i in 0..8usize {
-        rows[i] = unit(i);
-    }
+    let mut rows = array::from_fn(unit);
+    // By number: a window is where it begins, and one row less is left after each.
     for j in 0..7usize {
         eliminate(&mut rows, s, j, 7 - j);
     }

@@ -1,36 +1,53 @@
 // The errors that have given syndromes.
+ghost use Rattle.std.specs.Prelude.{◌≡◌, ℕ, ◌<◌, ◌≤◌, length, map, slice_index};
+ghost use Rattle.reed_solomon_algebra.specs.Polynomials.{Elements};
+ghost use Rattle.reed_solomon_algebra.specs.Terms.{Differ};
+ghost use Rattle.reed_solomon_decoder.specs.Errors.{Agrees, located};
+ghost use Rattle.reed_solomon_decoder.specs.Listed.{indices, places, values};
 ghost use Rattle.reed_solomon_decoder.specs.Decoded.{Decoded};
 
 use crate::elimination::locator;
-use crate::evaluation::{explained, value_of};
-use crate::search::{locators_of, search};
+use crate::evaluation::{explained, value_at};
+use crate::line::Place;
+use crate::search::search;
+use arrayvec::ArrayVec;
 
-// At most seven errors: the first `count` of the places in the line, and what is to be added there.
-#[derive(Clone, Copy, Drop)]
-pub struct Errors {
-    pub count: usize,
-    pub places: [usize; 7],
-    pub values: [u16; 7],
+// A wrong symbol: its place in the line, and what is to be added there.
+#[derive(Clone, Copy, PartialEq, Eq, Debug, Default)]
+pub struct Error {
+    pub place: Place,
+    pub value: u16,
+}
+
+// At most seven errors.
+pub type Errors = ArrayVec<Error, 7>;
+
+// The errors at these places, as every explanation has them that has errors nowhere else.
+fn errors_at(s: &[u16; 14], found: &[Place]) -> Errors
+    requires few { length found.now ≤ 7 }
+    requires differ { Differ (located 528 (indices found.now)) }
+    ensures places { places result.items ≡ found.now }
+    ensures values { (k : ℕ) → k < length found.now → Agrees s.now (located 528 (indices found.now)) (slice_index (located 528 (indices found.now)) k) (slice_index (values result.items) k) }
+    ensures small { Elements (values result.items) }
+{
+    let mut errors = ArrayVec::new();
+    for (i, place) in found.iter().enumerate() {
+        errors.push(Error {
+            place: *place,
+            value: value_at(s, found, i),
+        });
+    }
+    errors
 }
 
 // The errors, at most seven, that have these syndromes, if there are such.
 pub fn decode(s: &[u16; 14]) -> Option<Errors>
     ensures { Decoded s.now result }
 {
-    let u = locator(s);
-    let found = search(&u);
-    let all = locators_of(&found.places[0..found.count]);
-    let locators = &all[0..found.count];
-    let mut values = [0; 7];
-    for i in 0..found.count {
-        values[i] = value_of(s, locators, i);
-    }
-    if explained(s, &values, locators) {
-        Some(Errors {
-            count: found.count,
-            places: found.places,
-            values,
-        })
+    let places = search(&locator(s));
+    let errors = errors_at(s, places.as_slice());
+    if explained(s, errors.as_slice()) {
+        Some(errors)
     } else {
         None
     }

@@ -1,74 +1,62 @@
 // The values of the errors at given places, and whether they have the syndromes.
-ghost use Rattle.std.specs.Prelude.{◌≡◌, ℕ, ◌+◌, ◌<◌, ◌≤◌, true, length, bit_xor, slice_index};
+ghost use Rattle.std.specs.Prelude.{◌≡◌, ℕ, ◌+◌, ◌<◌, ◌≤◌, ◌↔◌, IsTrue, length, bit_xor, slice_index};
 ghost use Rattle.field.specs.Field.{mul};
-ghost use Rattle.reed_solomon_algebra.specs.Polynomials.{Elements};
-ghost use Rattle.reed_solomon_algebra.specs.Terms.{Differ, terms};
-ghost use Rattle.reed_solomon_decoder.specs.Errors.{Agrees, SumsFrom, sum_of};
+ghost use Rattle.reed_solomon_algebra.specs.Terms.{Differ, power_sum};
+ghost use Rattle.reed_solomon_decoder.specs.Errors.{Agrees, SumsFrom, located};
+ghost use Rattle.reed_solomon_decoder.specs.Listed.{indices, listed};
 
-use field::{inverse, product};
+use crate::errors::Error;
+use crate::line::Place;
+use field::{alpha_power, inverse, product};
 
 // Takes the errors at `x` from the first `n` sums.
 fn pull(sums: &mut [u16; 14], x: u16, n: usize)
     requires { n < 14 }
     ensures { (j : ℕ) → j < n → slice_index sums.new j ≡ bit_xor (slice_index sums.old (j + 1)) (mul x (slice_index sums.old j)) }
 {
+    // By index: each sum is made in place of itself and the next.
     for j in 0..n {
         sums[j] = sums[j + 1] ^ product(x, sums[j]);
     }
 }
 
-// The value at the `i`-th of the locators: what is left of the sums once the errors at the others are taken from them.
-pub(crate) fn value_of(s: &[u16; 14], locators: &[u16], i: usize) -> u16
-    requires fits { (i < length locators.now) × (length locators.now ≤ 7) }
-    requires symbols { Elements locators.now }
-    requires differ { Differ locators.now }
-    ensures value { Agrees s.now locators.now (slice_index locators.now i) result }
+// The value at the `i`-th of the places: what is left of the sums once the errors at the others are taken from them.
+pub(crate) fn value_at(s: &[u16; 14], places: &[Place], i: usize) -> u16
+    requires fits { (i < length places.now) × (length places.now ≤ 7) }
+    requires differ { Differ (located 528 (indices places.now)) }
+    ensures value { Agrees s.now (located 528 (indices places.now)) (slice_index (located 528 (indices places.now)) i) result }
     ensures small { result < 1024 }
 {
+    let here = places[i].locator();
     let mut sums = *s;
     let mut way = 1;
-    for k in 0..locators.len() {
+    for (k, place) in places.iter().enumerate() {
         if k != i {
-            pull(&mut sums, locators[k], locators.len() - k);
-            way = product(way, locators[i] ^ locators[k]);
+            let other = place.locator();
+            pull(&mut sums, other, places.len() - k);
+            way = product(way, here ^ other);
         }
     }
     product(sums[0], inverse(way))
 }
 
-fn sum(parts: &[u16]) -> u16
-    ensures { result ≡ sum_of parts.now }
+// The sum of the errors, each times the `j`-th power of its locator.
+fn sum_of_powers(errors: &[Error], j: usize) -> u16
+    requires { j < 14 }
+    ensures { result ≡ power_sum j (listed errors.now) }
 {
-    let mut all = 0;
-    for part in parts {
-        all ^= *part;
+    let mut sum = 0;
+    for error in errors {
+        sum ^= product(error.value, error.place.power(j));
     }
-    all
+    sum
 }
 
-// Each part times its locator.
-fn raise(parts: &mut [u16; 7], locators: &[u16])
-    requires { length locators.now ≤ 7 }
-    ensures { (i : ℕ) → i < length locators.now → slice_index parts.new i ≡ mul (slice_index parts.old i) (slice_index locators.now i) }
+// Whether the errors have these syndromes.
+pub(crate) fn explained(s: &[u16; 14], errors: &[Error]) -> bool
+    ensures { IsTrue result ↔ SumsFrom 0 s.now (listed errors.now) }
 {
-    for i in 0..locators.len() {
-        parts[i] = product(parts[i], locators[i]);
-    }
-}
-
-// Whether the values at the locators have these syndromes.
-pub(crate) fn explained(s: &[u16; 14], values: &[u16; 7], locators: &[u16]) -> bool
-    requires fits { length locators.now ≤ 7 }
-    requires symbols { Elements values.now }
-    ensures yes { result ≡ true → SumsFrom 0 s.now (terms values.now locators.now) }
-    ensures no { SumsFrom 0 s.now (terms values.now locators.now) → result ≡ true }
-{
-    let mut parts = *values;
-    for j in 0..14usize {
-        if sum(&parts[0..locators.len()]) != s[j] {
-            return false;
-        }
-        raise(&mut parts, locators);
-    }
-    true
+    s.iter()
+        .enumerate()
+        .all(|(j, due)| sum_of_powers(errors, j) == *due)
 }

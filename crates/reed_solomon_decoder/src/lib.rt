@@ -4,4 +4,5 @@
 mod elimination;
 pub mod errors;
 mod evaluation;
+pub mod line;
 mod search;

@@ -66,8 +66,5 @@ unfolding bits_of
 get_or_bits [] i = ap (λ (y : ℕ). y % 2) (sym (zero-div (2 ^ (i % 8))))
 get_or_bits (b ∷ bs) i = elim (cases_lt i 8) [ inl h ↦ in_first b bs i h | inr h ↦ in_later b bs i h (get_or_bits bs (i - 8)) ]
 
-pub bit_below : (bs : List ℕ) (i : ℕ) → get_or (bits_of bs) i 0 < 2
-bit_below bs i = let e = get_or_bits bs i in omega arith
-
 pub bits_past : (bs : List ℕ) (i : ℕ) → length bs ≤ i / 8 → get_or (bits_of bs) i 0 ≡ 0
 bits_past bs i h = get_or_past (bits_of bs) i 0 (omega (arith, length_bits bs))

@@ -1,5 +1,7 @@
 -- Lemmas on bits, cells, fields and the pattern, and on what is sent and read of them.
 pub mod Bits
+pub mod Levels
+pub mod Recorded
 pub mod Sending
 pub mod Standing
 pub mod Cells

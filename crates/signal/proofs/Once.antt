@@ -9,7 +9,7 @@ use Rattle.training.specs.declared.refusals.TrainingRefusal.TheVariants.{Values,
 use Rattle.training.specs.Fields.{control_number, status_number}
 use Rattle.signal.specs.Signal.{bits_of, Stands, front}
 use Rattle.signal.specs.Calls.{Sized, Room, Marked, Fronted, Read, ReadOk, ReadRefused}
-use Rattle.signal.specs.Laws.{ReadsBack, IsWritten}
+use Rattle.signal.specs.Laws.{ReadsBack}
 use Rattle.signal.proofs.SignalParts.{length_signal, signal_front, signal_back, front_marker}
 use Rattle.signal.proofs.OneSignal.{same_front, signal_fronted, same_signal, front_unbroken}
 
@@ -139,8 +139,3 @@ module _ (recording : List ℕ) (start : ℕ) where
   reads_back r h c s seed before after w sized stood =
       let there = subst (λ (l : List ℕ). Stands l (bits_of recording) start) w.becomes stood in
       sym (once r (Ok (record { control = c; status = s; seed = seed })) h (record { sized = sized; seeded = w.seeded; stands = there }))
-
-  pub is_written : (r : Result Training TrainingRefusal) → Read recording start r → IsWritten recording start r
-  is_written r h t before after e w =
-      let ok = subst (Read recording start) e h in
-      subst (λ (l : List ℕ). Stands l (bits_of recording) start) (sym w.becomes) ok.stands

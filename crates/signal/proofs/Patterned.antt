@@ -1,6 +1,7 @@
 -- What the bits of a recording show of a seed, its pattern and the end zeros.
 use Rattle.std.proofs.Common.{◌≡◌, ℕ, suc, ◌+◌, ◌-◌, ◌*◌, ◌/◌, ◌%◌, ◌<◌, ◌≤◌, List, [], ◌∷◌, length, get_or, replicate, sym, refl, ap, ◌∙◌, subst, arith}
-use Rattle.signal.specs.Signal.{Stands, least_first, pattern, pattern_next, back, turned}
+use Rattle.signal.specs.Signal.{Stands, least_first, pattern, pattern_next, back}
+use Rattle.signal.specs.Inner.{SumAt}
 use Rattle.signal.proofs.Bits.{length_least, get_or_least, same_least}
 use Rattle.signal.proofs.Pattern.{length_pattern, pattern_more, pattern_early, pattern_later, next_later}
 use Rattle.signal.proofs.Standing.{stands_join, stands_left, stands_right, stands_same, one_stands}
@@ -35,31 +36,33 @@ module _ (bits : List ℕ) where
   one_seed x y p hx hy sx sy = same_least 11 x y hx hy (stands_same bits (least_first 11 x) (least_first 11 y) p (length_least 11 x ∙ sym (length_least 11 y)) sx sy)
 
   -- one more bit that is the sum of two before it
-  pub pattern_grows : (seed k p a b v : ℕ) → 11 ≤ k → p + k < length bits → Stands (pattern seed k) bits p
-      → v ≡ get_or bits (p + k) 0 → a ≡ get_or bits (p + k - 9) 0 → b ≡ get_or bits (p + k - 11) 0 → v ≡ turned a b → Stands (pattern seed (k + 1)) bits p
-  pattern_grows seed k p a b v low room s hv ha hb e =
-      let long = length_pattern seed k in
-      let nine : p + k - 9 ≡ p + (k - 9) = omega arith in
-      let eleven : p + k - 11 ≡ p + (k - 11) = omega arith in
-      let fa = ha ∙ ap (λ (j : ℕ). get_or bits j 0) nine ∙ s.places (k - 9) (omega arith) in
-      let fb = hb ∙ ap (λ (j : ℕ). get_or bits j 0) eleven ∙ s.places (k - 11) (omega arith) in
-      let next : get_or bits (p + k) 0 ≡ pattern_next seed (pattern seed k) k =
-      sym hv ∙ e ∙ ap (λ (y : ℕ). (y + b) % 2) fa ∙ ap (λ (y : ℕ). (get_or (pattern seed k) (k - 9) 0 + y) % 2) fb ∙ sym (next_later seed k (pattern seed k) low) in
-      let one = one_stands bits (pattern_next seed (pattern seed k) k) (p + k) room next in
-      subst (λ (l : List ℕ). Stands l bits p) (pattern_more seed k)
-      (stands_join bits (pattern seed k) (pattern_next seed (pattern seed k) k ∷ []) p (p + k) (omega arith) s one)
+  pub pattern_grows : (seed p at : ℕ) → p + 11 ≤ at → at < length bits → Stands (pattern seed (at - p)) bits p → SumAt bits at → Stands (pattern seed (at + 1 - p)) bits p
+  pattern_grows seed p at low room s e =
+      let long = length_pattern seed (at - p) in
+      let nine : at - 9 ≡ p + (at - p - 9) = omega arith in
+      let eleven : at - 11 ≡ p + (at - p - 11) = omega arith in
+      let fa = ap (λ (j : ℕ). get_or bits j 0) nine ∙ s.places (at - p - 9) (omega arith) in
+      let fb = ap (λ (j : ℕ). get_or bits j 0) eleven ∙ s.places (at - p - 11) (omega arith) in
+      let next : get_or bits at 0 ≡ pattern_next seed (pattern seed (at - p)) (at - p) =
+      e ∙ ap (λ (y : ℕ). (y + get_or bits (at - 11) 0) % 2) fa ∙ ap (λ (y : ℕ). (get_or (pattern seed (at - p)) (at - p - 9) 0 + y) % 2) fb
+      ∙ sym (next_later seed (at - p) (pattern seed (at - p)) (omega arith)) in
+      let one = one_stands bits (pattern_next seed (pattern seed (at - p)) (at - p)) at room next in
+      let more : at - p + 1 ≡ at + 1 - p = omega arith in
+      subst (λ (l : List ℕ). Stands l bits p) (pattern_more seed (at - p) ∙ ap (pattern seed) more)
+      (stands_join bits (pattern seed (at - p)) (pattern_next seed (pattern seed (at - p)) (at - p) ∷ []) p at (omega arith) s one)
 
   -- where the pattern of any seed stands, each later bit is such a sum
-  pub sums_stand : (seed k p a b v : ℕ) → 11 ≤ k → k < 4094 → Stands (pattern seed 4094) bits p
-      → v ≡ get_or bits (p + k) 0 → a ≡ get_or bits (p + k - 9) 0 → b ≡ get_or bits (p + k - 11) 0 → v ≡ turned a b
-  sums_stand seed k p a b v low high s hv ha hb =
+  pub sums_stand : (seed p at : ℕ) → p + 11 ≤ at → at < p + 4094 → Stands (pattern seed 4094) bits p → SumAt bits at
+  sums_stand seed p at low high s =
       let long = length_pattern seed 4094 in
-      let nine : p + k - 9 ≡ p + (k - 9) = omega arith in
-      let eleven : p + k - 11 ≡ p + (k - 11) = omega arith in
-      let fa = ha ∙ ap (λ (j : ℕ). get_or bits j 0) nine ∙ s.places (k - 9) (omega arith) in
-      let fb = hb ∙ ap (λ (j : ℕ). get_or bits j 0) eleven ∙ s.places (k - 11) (omega arith) in
-      hv ∙ s.places k (omega arith) ∙ pattern_later seed 4094 k high low
-      ∙ ap (λ (y : ℕ). (y + get_or (pattern seed 4094) (k - 11) 0) % 2) (sym fa) ∙ ap (λ (y : ℕ). (a + y) % 2) (sym fb)
+      let here : at ≡ p + (at - p) = omega arith in
+      let nine : at - 9 ≡ p + (at - p - 9) = omega arith in
+      let eleven : at - 11 ≡ p + (at - p - 11) = omega arith in
+      let fv = ap (λ (j : ℕ). get_or bits j 0) here ∙ s.places (at - p) (omega arith) in
+      let fa = ap (λ (j : ℕ). get_or bits j 0) nine ∙ s.places (at - p - 9) (omega arith) in
+      let fb = ap (λ (j : ℕ). get_or bits j 0) eleven ∙ s.places (at - p - 11) (omega arith) in
+      fv ∙ pattern_later seed 4094 (at - p) (omega arith) (omega arith)
+      ∙ ap (λ (y : ℕ). (y + get_or (pattern seed 4094) (at - p - 11) 0) % 2) (sym fa) ∙ ap (λ (y : ℕ). (get_or bits (at - 9) 0 + y) % 2) (sym fb)
 
   -- the pattern and the end zeros
   pub back_seen : (seed p : ℕ) → Stands (pattern seed 4094) bits p → Stands (replicate 2 0) bits (p + 4094) → Stands (back seed) bits p

@@ -1,5 +1,6 @@
 -- What the levels of a recording show of the marker and of one cell.
-use Rattle.std.proofs.Common.{◌≡◌, ℕ, ◌+◌, ◌<◌, Bool, true, false, List, get_or, replicate, MatchBool, sym, refl, ap, ◌∙◌, subst, arith}
+use Rattle.std.proofs.Common.{◌≡◌, ℕ, ◌+◌, ◌<◌, Bool, true, false, List, get_or, replicate, MatchBool, MatchOption, sym, refl, ap, ◌∙◌, subst, arith}
+use Rattle.std.specs.Bool.{then_some}
 use Rattle.std.proofs.lemmas.Bool.{true≢false}
 use Rattle.signal.specs.Signal.{Stands, marker, turned, cell_end, cell}
 use Rattle.signal.proofs.Standing.{stands_join, stands_left, stands_right, stands_level}
@@ -54,3 +55,8 @@ when_weaker false f g h = g h
 pub false_when : (b : Bool) (P : Type 0) {Q : Type 0} → b ≡ false → Q → MatchBool b P Q
 false_when true P e q = absurd (true≢false e)
 false_when false P e q = q
+
+-- a value that stands where a test holds
+pub then_some_when : {A : Type 0} (b : Bool) (x : A) (P : A → Type 0) (Q : Type 0) → MatchBool b (P x) Q → MatchOption (then_some b x) Q P
+then_some_when true x P Q h = h
+then_some_when false x P Q h = h

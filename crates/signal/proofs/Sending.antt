@@ -1,5 +1,5 @@
 -- One TUI sent after those already sent.
-use Rattle.std.proofs.Common.{◌≡◌, ℕ, suc, ◌+◌, ◌-◌, ◌*◌, ◌/◌, ◌%◌, ◌^◌, ◌<◌, ◌≤◌, List, [], ◌∷◌, ◌++◌, length, get_or, take, set, sym, ap, ◌∙◌, inl, inr, mod-lt, mul_comm, add_comm, mul-le-mul_left, arith, length-set, pow_pos, pow_mono}
+use Rattle.std.proofs.Common.{◌≡◌, ℕ, suc, ◌+◌, ◌-◌, ◌*◌, ◌/◌, ◌%◌, ◌^◌, ◌<◌, ◌≤◌, List, [], ◌∷◌, ◌++◌, length, get_or, take, set, sym, ap, ◌∙◌, inl, inr, mod-lt, add_comm, arith, length-set, pow_pos}
 use lib.Pow.{mod-mod-pow}
 use Rattle.std.proofs.lemmas.Nat.{field_of, shr_high, mod_low}
 use Rattle.std.proofs.lemmas.List.{get_or-set_same, get_or-set_other, take_more}
@@ -34,14 +34,6 @@ pub put_at : (b k v : ℕ) → v < 2 → put b k v / 2 ^ k % 2 ≡ v
 put_at b k v h =
     let high = shr_high v k (b % 2 ^ k) (mod-lt b (pow_pos k)) in
     let e : put b k v / 2 ^ k ≡ v = ap (λ (y : ℕ). y / 2 ^ k) (turn_about b k v) ∙ high in
-    omega arith
-
-pub put_fits : (b k v : ℕ) → k < 8 → v < 2 → put b k v < 256
-put_fits b k v h l =
-    let r = mod-lt b (pow_pos k) in
-    let p : 2 ^ k ≤ 2 ^ 7 = pow_mono {i = k} {j = 7} (omega arith) in
-    let m : 2 ^ k * v ≤ 2 ^ k * 1 = mul-le-mul_left (2 ^ k) (omega arith) in
-    let c = mul_comm v (2 ^ k) in
     omega arith
 
 -- the bits before the one that is put

@@ -50,12 +50,7 @@ module _ (bits : List ℕ) where
   pub stands_level : (n level p i : ℕ) → Stands (replicate n level) bits p → i < n → get_or bits (p + i) 0 ≡ level
   stands_level n level p i s h = s.places i (omega (arith, length-replicate n level)) ∙ get_or-replicate n i level 0 h
 
--- a list stands in itself, and where a list that it stands in stands
-pub stands_self : (bits xs : List ℕ) → bits ≡ xs → Stands xs bits 0
-stands_self bits xs e =
-    record { within = omega (arith, ap length e); places = λ i h. let z : 0 + i ≡ i = omega arith in ap (λ (k : ℕ). get_or bits k 0) z ∙ ap (λ (l : List ℕ). get_or l i 0) e }
-
--- a list stands in the middle of a longer one
+-- a list stands in the middle of a longer one, where a list before it ends
 pub stands_middle : (xs ys zs : List ℕ) → Stands ys ((xs ++ ys) ++ zs) (length xs)
 stands_middle xs ys zs =
     let long = length-append (xs ++ ys) zs in

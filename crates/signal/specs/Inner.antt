@@ -1,6 +1,6 @@
 -- Helper definitions, which only contracts of private functions cite.
-use Rattle.std.specs.Prelude.{ℕ, ◌+◌, ◌-◌, ◌*◌, ◌<◌, List, slice_index}
-use Rattle.signal.specs.Signal.{Stands, cell, cells, field, pattern, IsSeed}
+use Rattle.std.specs.Prelude.{◌≡◌, ℕ, ◌+◌, ◌-◌, ◌*◌, ◌<◌, List, slice_index}
+use Rattle.signal.specs.Signal.{Stands, turned, cell, cells, field, pattern, IsSeed}
 
 -- the level before a place
 abbrev pub level_before : List ℕ → ℕ → ℕ
@@ -17,6 +17,10 @@ FieldBroken bits p = (k : ℕ) × (k < 16) × ((bit : ℕ) → CellAt bits (p + 
 -- the cells of a field stand there
 abbrev pub FieldAt : List ℕ → ℕ → ℕ → Type 0
 FieldAt bits p x = (x < 65536) × Stands (cells (level_before bits p) (field x)) bits p
+
+-- the level there is the sum of those nine and eleven TUI before it
+abbrev pub SumAt : List ℕ → ℕ → Type 0
+SumAt bits at = slice_index bits at ≡ turned (slice_index bits (at - 9)) (slice_index bits (at - 11))
 
 -- the pattern of a seed stands there
 abbrev pub PatternAt : List ℕ → ℕ → ℕ → Type 0

@@ -2,4 +2,5 @@
 pub mod Signal
 pub mod Calls
 pub mod Laws
+pub mod Tape
 pub mod Inner

@@ -4,4 +4,6 @@
 pub mod line;
 mod pieces;
 pub mod reading;
+mod sender;
+pub mod tape;
 pub mod writing;

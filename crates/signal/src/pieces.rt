@@ -1,112 +1,110 @@
 // Reading the pieces of a signal at a place of a recording.
 ghost use Rattle.std.specs.Prelude.{◌≡◌, ℕ, ◌+◌, ◌-◌, ◌*◌, ◌^◌, ◌<◌, ◌≤◌, length, replicate, MatchBool, MatchOption};
-ghost use Rattle.signal.specs.Signal.{bits_of, least_first, Stands, marker, back, IsSeed, recording_max};
-ghost use Rattle.signal.specs.Inner.{CellAt, FieldBroken, FieldAt, PatternAt};
+ghost use Rattle.std.specs.Int.{from_bool};
+ghost use Rattle.signal.specs.Signal.{least_first, Stands, marker, back, IsSeed};
+ghost use Rattle.signal.specs.Inner.{CellAt, FieldBroken, FieldAt, SumAt, PatternAt};
 ghost use Rattle.signal.specs.Calls.{Broken, Fronted};
+ghost use Rattle.signal.specs.Tape.{tui};
 
-use crate::line::{tui_at, turn};
+use crate::tape::Recording;
 
-// The level stays for `count` TUI.
-pub(crate) fn stays(recording: &[u8], place: usize, count: usize, level: u8) -> bool
-    requires { (length recording.now ≤ recording_max) × (place + count ≤ 8 * length recording.now) }
-    ensures { MatchBool result (Stands (replicate count level) (bits_of recording.now) place) (Stands (replicate count level) (bits_of recording.now) place → ⊥) }
-{
-    for i in 0..count {
-        if tui_at(recording, place + i) != level {
-            return false;
+#[tactic(auto, using(crate::proofs::Recorded::tui_max))]
+impl<'a> Recording<'a> {
+    // The level stays for `count` TUI.
+    fn stays(&self, place: usize, count: usize, level: bool) -> bool
+        requires { place + count ≤ length (tui self.now) }
+        ensures { MatchBool result (Stands (replicate count (from_bool level)) (tui self.now) place) (Stands (replicate count (from_bool level)) (tui self.now) place → ⊥) }
+    {
+        (place..place + count).all(|at| self.level_at(at) == level)
+    }
+
+    // A marker stands there.
+    pub(crate) fn marker_at(&self, place: usize) -> bool
+        requires { place + 32 ≤ length (tui self.now) }
+        ensures { MatchBool result (Stands marker (tui self.now) place) (Stands marker (tui self.now) place → ⊥) }
+    {
+        self.stays(place, 16, true) && self.stays(place + 16, 16, false)
+    }
+
+    // The bit that a cell carries.
+    fn cell_at(&self, place: usize) -> Option<bool>
+        requires { (1 ≤ place) × (place + 8 ≤ length (tui self.now)) }
+        ensures { MatchOption result ((bit : ℕ) → CellAt (tui self.now) place bit → ⊥) (λ bit. CellAt (tui self.now) place (from_bool bit)) }
+    {
+        let first = !self.level_at(place - 1);
+        let second = self.level_at(place + 4);
+        let whole = self.stays(place, 4, first) && self.stays(place + 4, 4, second);
+        whole.then_some(first != second)
+    }
+
+    // The field that sixteen cells carry, bit 15 first.
+    fn field_at(&self, place: usize) -> Option<u16>
+        requires { (1 ≤ place) × (place + 128 ≤ length (tui self.now)) }
+        ensures { MatchOption result (FieldBroken (tui self.now) place) (FieldAt (tui self.now) place) }
+    {
+        let mut field = 0;
+        // Cell k begins 8 k TUI on, and its last level is read with the next cell: no list of cells to go over.
+        for k in 0..16 {
+            let bit = self.cell_at(place + 8 * k)?;
+            field = field * 2 + u16::from(bit);
         }
+        Some(field)
     }
-    true
-}
 
-// A marker stands there.
-pub(crate) fn marker_at(recording: &[u8], place: usize) -> bool
-    requires { (length recording.now ≤ recording_max) × (place + 32 ≤ 8 * length recording.now) }
-    ensures { MatchBool result (Stands marker (bits_of recording.now) place) (Stands marker (bits_of recording.now) place → ⊥) }
-{
-    stays(recording, place, 16, 1) && stays(recording, place + 16, 16, 0)
-}
-
-// The bit that a cell carries.
-fn cell_at(recording: &[u8], place: usize) -> Option<u8>
-    requires { (length recording.now ≤ recording_max) × ((1 ≤ place) × (place + 8 ≤ 8 * length recording.now)) }
-    ensures { MatchOption result ((bit : ℕ) → CellAt (bits_of recording.now) place bit → ⊥) (λ bit. (bit < 2) × CellAt (bits_of recording.now) place bit) }
-{
-    let first = turn(tui_at(recording, place - 1), 1);
-    let second = tui_at(recording, place + 4);
-    if stays(recording, place, 4, first) && stays(recording, place + 4, 4, second) {
-        Some(turn(first, second))
-    } else {
-        None
+    // The control and the status field after a marker.
+    pub(crate) fn fields_at(&self, start: usize) -> Option<(u16, u16)>
+        requires { (start + 288 ≤ length (tui self.now)) × Stands marker (tui self.now) start }
+        ensures { MatchOption result (Broken (tui self.now) start) (λ p. Fronted (tui self.now) start p.0 p.1) }
+    {
+        let control = self.field_at(start + 32)?;
+        let status = self.field_at(start + 160)?;
+        Some((control, status))
     }
-}
 
-// The field that sixteen cells carry, bit 15 first.
-fn field_at(recording: &[u8], place: usize) -> Option<u16>
-    requires { (length recording.now ≤ recording_max) × ((1 ≤ place) × (place + 128 ≤ 8 * length recording.now)) }
-    ensures { MatchOption result (FieldBroken (bits_of recording.now) place) (FieldAt (bits_of recording.now) place) }
-{
-    let mut field: u16 = 0;
-    for k in 0..16 {
-        let bit = cell_at(recording, place + 8 * k)?;
-        field = field * 2 + bit as u16;
+    // The number of the first eleven bits of a pattern, the least first.
+    fn seed_at(&self, place: usize) -> u16
+        requires { place + 11 ≤ length (tui self.now) }
+        ensures { (result < 2048) × Stands (least_first 11 result) (tui self.now) place }
+    {
+        let mut seed = 0;
+        for at in (place..place + 11).rev() {
+            seed = seed * 2 + u16::from(self.level_at(at));
+        }
+        seed
     }
-    Some(field)
-}
 
-// The control and the status field after a marker.
-pub(crate) fn fields_at(recording: &[u8], start: usize) -> Option<(u16, u16)>
-    requires { (length recording.now ≤ recording_max) × ((start + 288 ≤ 8 * length recording.now) × (Stands marker (bits_of recording.now) start)) }
-    ensures { MatchOption result (Broken (bits_of recording.now) start) (λ p. Fronted (bits_of recording.now) start p.0 p.1) }
-{
-    let control = field_at(recording, start + 32)?;
-    let status = field_at(recording, start + 160)?;
-    Some((control, status))
-}
-
-// The number of the first eleven bits of a pattern, the least first.
-fn seed_at(recording: &[u8], place: usize) -> u16
-    requires { (length recording.now ≤ recording_max) × (place + 11 ≤ 8 * length recording.now) }
-    ensures { (result < 2048) × Stands (least_first 11 result) (bits_of recording.now) place }
-{
-    let mut seed: u16 = 0;
-    for i in (0..11).rev() {
-        seed = seed * 2 + tui_at(recording, place + i) as u16;
+    // A level is the sum of those nine and eleven TUI before it, as in the pattern.
+    fn sum_at(&self, at: usize) -> bool
+        requires { 11 ≤ at }
+        ensures { MatchBool result (SumAt (tui self.now) at) (SumAt (tui self.now) at → ⊥) }
+    {
+        self.level_at(at) == (self.level_at(at - 9) != self.level_at(at - 11))
     }
-    seed
-}
 
-// The seed whose pattern stands there.
-fn pattern_at(recording: &[u8], place: usize) -> Option<u16>
-    requires { (length recording.now ≤ recording_max) × (place + 4094 ≤ 8 * length recording.now) }
-    ensures { MatchOption result ((seed : ℕ) → PatternAt (bits_of recording.now) place seed → ⊥) (PatternAt (bits_of recording.now) place) }
-{
-    let seed = seed_at(recording, place);
-    if seed == 0 {
-        return None;
-    }
-    for k in 11..4094 {
-        if tui_at(recording, place + k)
-            != turn(
-                tui_at(recording, place + k - 9),
-                tui_at(recording, place + k - 11),
-            )
-        {
+    // The seed whose pattern stands there.
+    fn pattern_at(&self, place: usize) -> Option<u16>
+        requires { place + 4094 ≤ length (tui self.now) }
+        ensures { MatchOption result ((seed : ℕ) → PatternAt (tui self.now) place seed → ⊥) (PatternAt (tui self.now) place) }
+    {
+        let seed = self.seed_at(place);
+        if seed == 0 {
             return None;
         }
-    }
-    Some(seed)
-}
-
-// The seed whose pattern stands there with the two zeros after it.
-pub(crate) fn back_at(recording: &[u8], place: usize) -> Option<u16>
-    requires { (length recording.now ≤ recording_max) × (place + 4096 ≤ 8 * length recording.now) }
-    ensures { MatchOption result ((seed : ℕ) → IsSeed seed → Stands (back seed) (bits_of recording.now) place → ⊥) (λ seed. IsSeed seed × Stands (back seed) (bits_of recording.now) place) }
-{
-    let seed = pattern_at(recording, place)?;
-    if stays(recording, place + 4094, 2, 0) {
+        // By `all` a reading takes a third longer, so this is a loop.
+        for at in place + 11..place + 4094 {
+            if !self.sum_at(at) {
+                return None;
+            }
+        }
         Some(seed)
-    } else {
-        None
+    }
+
+    // The seed whose pattern stands there with the two zeros after it.
+    pub(crate) fn back_at(&self, place: usize) -> Option<u16>
+        requires { place + 4096 ≤ length (tui self.now) }
+        ensures { MatchOption result ((seed : ℕ) → IsSeed seed → Stands (back seed) (tui self.now) place → ⊥) (λ seed. IsSeed seed × Stands (back seed) (tui self.now) place) }
+    {
+        let seed = self.pattern_at(place)?;
+        self.stays(place + 4094, 2, false).then_some(seed)
     }
 }

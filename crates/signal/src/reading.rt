@@ -1,10 +1,11 @@
 // Reading the signal at a place of a recording.
-ghost use Rattle.std.specs.Prelude.{◌≡◌, ℕ, ◌+◌, ◌*◌, ◌<◌, ◌≤◌, length, MatchOption};
+ghost use Rattle.std.specs.Prelude.{◌≡◌, ℕ, length, MatchOption};
 ghost use Rattle.training.specs.Fields.{control_number, status_number, IsControl, IsStatus};
 ghost use Rattle.signal.specs.Calls.{Read};
 ghost use Rattle.signal.specs.Laws.{ReadsBack, IsWritten, ReadsOnce};
+ghost use Rattle.signal.specs.Tape.{bytes_of};
 
-use crate::pieces::{back_at, fields_at, marker_at};
+use crate::tape::Recording;
 use training::records::{Control, Status, Training};
 use training::refusals::TrainingRefusal;
 
@@ -18,39 +19,36 @@ pub const RECORDING_MAX: usize = 65536;
 fn records_of(control: u16, status: u16) -> Option<(Control, Status)>
     ensures { MatchOption result (IsControl control × IsStatus status → ⊥) (λ p. (control_number p.0 ≡ control) × (status_number p.1 ≡ status)) }
 {
-    let control = Control::from_field(control)?;
-    let status = Status::from_field(status)?;
+    let control = Control::try_from(control).ok()?;
+    let status = Status::try_from(status).ok()?;
     Some((control, status))
 }
 
-// The checks in their order.
-fn read_checked(recording: &[u8], start: usize) -> Result<Training, TrainingRefusal>
-    ensures { Read recording.now start result }
-{
-    if recording.len() > RECORDING_MAX {
-        return Err(TrainingRefusal::Length);
+impl<'a> Recording<'a> {
+    // Reads the signal that begins at TUI `start`: the checks in their order.
+    pub fn read(&self, start: usize) -> Result<Training, TrainingRefusal>
+        ensures { Read (bytes_of self.now) start result }
+    {
+        let end = self.tui_count();
+        if end < SIGNAL_TUI || start > end - SIGNAL_TUI {
+            return Err(TrainingRefusal::Short { place: start });
+        }
+        if !self.marker_at(start) {
+            return Err(TrainingRefusal::NoMarker { place: start });
+        }
+        let broken = TrainingRefusal::BrokenCell { place: start };
+        let (control, status) = self.fields_at(start).ok_or(broken)?;
+        let reserved = TrainingRefusal::Reserved { place: start };
+        let (control, status) = records_of(control, status).ok_or(reserved)?;
+        let seed = self
+            .back_at(start + 288)
+            .ok_or(TrainingRefusal::Pattern { place: start })?;
+        Ok(Training {
+            control,
+            status,
+            seed,
+        })
     }
-    let end = recording.len() * 8;
-    if end < SIGNAL_TUI || start > end - SIGNAL_TUI {
-        return Err(TrainingRefusal::Short { place: start });
-    }
-    if !marker_at(recording, start) {
-        return Err(TrainingRefusal::NoMarker { place: start });
-    }
-    let Some((control, status)) = fields_at(recording, start) else {
-        return Err(TrainingRefusal::BrokenCell { place: start });
-    };
-    let Some((control, status)) = records_of(control, status) else {
-        return Err(TrainingRefusal::Reserved { place: start });
-    };
-    let Some(seed) = back_at(recording, start + 288) else {
-        return Err(TrainingRefusal::Pattern { place: start });
-    };
-    Ok(Training {
-        control,
-        status,
-        seed,
-    })
 }
 
 // Reads the signal that begins at TUI `start` of a recording.
@@ -60,5 +58,5 @@ pub fn read(recording: &[u8], start: usize) -> Result<Training, TrainingRefusal>
     ensures back { ReadsBack recording.now start result }
     ensures written { IsWritten recording.now start result }
 {
-    read_checked(recording, start)
+    Recording::new(recording)?.read(start)
 }

@@ -10,7 +10,7 @@ pub const MESSAGE_LENGTH: usize = 514;
 // The largest symbol.
 pub const SYMBOL_MAX: u16 = 1023;
 
-// The place of the first number that is no symbol, if there is one.
+// The place of the first number that is no symbol, if there is one: by index, since the place is the answer.
 pub fn first_above(list: &[u16]) -> Option<usize>
     ensures { MatchOption result (Symbols list.now) (FirstAbove list.now) }
 {

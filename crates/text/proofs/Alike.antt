@@ -1,53 +1,52 @@
--- The columns of a body one by one, and the bytes of a name.
-use Rattle.std.proofs.Common.{◌≡◌, ℕ, ◌+◌, ◌-◌, ◌<◌, ◌≤◌, true, false, cond, List, ◌∷◌, map, length, get_or, drop, replicate, is_some, Some, None, sym, ap, ◌∙◌, arith}
-use Rattle.std.proofs.lemmas.List.{drop_more, drop_all}
-use Rattle.std.proofs.lemmas.Bool.{eq-eqb, ne_eqb}
-use Rattle.text.specs.Text.{just, digit, hex_digit, fault}
-use Rattle.text.proofs.Faults.{fault_more, fault_end, replicate_more}
+-- The columns of a body and the bytes of a name, by the first of them that cannot stand.
+use Rattle.std.proofs.Common.{◌≡◌, ℕ, zero, suc, ◌+◌, ◌<◌, ◌≤◌, Bool, true, false, not, cond, List, [], ◌∷◌, map, length, replicate, is_some, Some, None, Option, sym, refl, ap, ◌∙◌, arith, eqb}
+use Rattle.std.specs.List.{zip, position_from}
+use Rattle.text.specs.Text.{just, digit, hex_digit, stands, fault}
+use Rattle.text.specs.Tokens.{fault_at}
+use Rattle.text.specs.declared.refusal.Fault.{Fault}
+use Rattle.text.specs.declared.refusal.Fault.TheVariants.{Ended, At}
 
-module _ (c n i : ℕ) (bs : List ℕ) (within : i < length bs) (few : length bs ≤ n) where
-  here : fault (c + i) (replicate (n - i) digit) (drop i bs) ≡ cond (is_some (hex_digit (get_or bs i 0))) (fault (c + i + 1) (replicate (n - (i + 1)) digit) (drop (i + 1) bs)) (Some (c + i))
-  here =
-      let r = replicate_more digit n i (omega arith) in
-      ap (λ ks. fault (c + i) ks (drop i bs)) r ∙ fault_more (c + i) i digit (replicate (n - (i + 1)) digit) bs within
+turn : (t : Bool) (c k : ℕ) (few : Bool) (x : Option Fault) (y : Option ℕ) → x ≡ fault_at c few y → cond t x (Some (At (c + k))) ≡ fault_at c few (cond (not t) (Some k) y)
+turn true c k few x y e = e
+turn false c k few x y e = refl
 
-  pub digit_passes : is_some (hex_digit (get_or bs i 0)) ≡ true → fault (c + (i + 1)) (replicate (n - (i + 1)) digit) (drop (i + 1) bs) ≡ fault (c + i) (replicate (n - i) digit) (drop i bs)
-  digit_passes t =
-      let e : c + (i + 1) ≡ c + i + 1 = omega arith in
-      ap (λ x. fault x (replicate (n - (i + 1)) digit) (drop (i + 1) bs)) e ∙ sym (here ∙ ap (λ b. cond b (fault (c + i + 1) (replicate (n - (i + 1)) digit) (drop (i + 1) bs)) (Some (c + i))) t)
+step : (t : Bool) (c k : ℕ) (few : Bool) (f : ℕ → Option Fault) (y : Option ℕ) → f (c + (k + 1)) ≡ fault_at c few y → cond t (f (c + k + 1)) (Some (At (c + k))) ≡ fault_at c few (cond (not t) (Some k) y)
+step t c k few f y e = let m : c + k + 1 ≡ c + (k + 1) = omega arith in turn t c k few (f (c + k + 1)) y (ap f m ∙ e)
 
-  pub digit_fails : is_some (hex_digit (get_or bs i 0)) ≡ false → Some (c + i) ≡ fault (c + i) (replicate (n - i) digit) (drop i bs)
-  digit_fails t = sym (here ∙ ap (λ b. cond b (fault (c + i + 1) (replicate (n - (i + 1)) digit) (drop (i + 1) bs)) (Some (c + i))) t)
+ends : (c : ℕ) (few : Bool) → few ≡ true → Some Ended ≡ fault_at c few None
+ends c few e = ap (λ t. cond t (Some Ended) None) (sym e)
 
--- all bytes are digits, and there are too few of them, or enough
+passes : (c : ℕ) (few : Bool) → few ≡ false → None ≡ fault_at c few None
+passes c few e = ap (λ t. cond t (Some Ended) None) (sym e)
 
-pub digits_short : (c n i : ℕ) (bs : List ℕ) → length bs ≤ i → i < n → Some 0 ≡ fault (c + i) (replicate (n - i) digit) (drop i bs)
-digits_short c n i bs h l =
-    sym (ap (λ ks. fault (c + i) ks (drop i bs)) (replicate_more digit n i l) ∙ fault_end (c + i) i digit (replicate (n - (i + 1)) digit) bs h)
-
-pub digits_full : (c n i : ℕ) (bs : List ℕ) → n ≤ i → None ≡ fault (c + i) (replicate (n - i) digit) (drop i bs)
+pub digits_at : (c n k : ℕ) (bs : List ℕ) (few : Bool) → length bs ≤ n → (length bs < n → few ≡ true) → (n ≤ length bs → few ≡ false)
+    → fault (c + k) (replicate n digit) bs ≡ fault_at c few (position_from (λ b. not (is_some (hex_digit b))) k bs)
 unfolding fault
-digits_full c n i bs h = let e : n - i ≡ 0 = omega arith in ap (λ m. fault (c + i) (replicate m digit) (drop i bs)) (sym e)
+digits_at c zero k [] few h s l = passes c few (l (omega arith))
+digits_at c zero k (b ∷ bs) few h s l = absurd (omega arith)
+digits_at c (suc n) k [] few h s l = ends c few (s (omega arith))
+digits_at c (suc n) k (b ∷ bs) few h s l =
+    step (stands digit b) c k few (λ x. fault x (replicate n digit) bs) _ (digits_at c n (k + 1) bs few (omega arith) (λ m. s (omega arith)) (λ m. l (omega arith)))
 
--- the bytes of a name
-
-module _ (c i : ℕ) (xs bs : List ℕ) (due : i < length xs) where
-  name_here : fault (c + i) (map just (drop i xs)) (drop i bs) ≡ fault (c + i) (just (get_or xs i 0) ∷ map just (drop (i + 1) xs)) (drop i bs)
-  name_here = ap (λ ks. fault (c + i) (map just ks) (drop i bs)) (drop_more xs i 0 due)
-
-  pub name_ends : length bs ≤ i → Some 0 ≡ fault (c + i) (map just (drop i xs)) (drop i bs)
-  name_ends h = sym (name_here ∙ fault_end (c + i) i _ _ bs h)
-
-  pub name_fails : i < length bs → (get_or bs i 0 ≡ get_or xs i 0 → ⊥) → Some (c + i) ≡ fault (c + i) (map just (drop i xs)) (drop i bs)
-  name_fails h ne =
-      sym (name_here ∙ fault_more (c + i) i _ _ bs h ∙ ap (λ b. cond b (fault (c + i + 1) (map just (drop (i + 1) xs)) (drop (i + 1) bs)) (Some (c + i))) (ne_eqb _ _ ne))
-
-  pub name_passes : i < length bs → get_or bs i 0 ≡ get_or xs i 0 → fault (c + (i + 1)) (map just (drop (i + 1) xs)) (drop (i + 1) bs) ≡ fault (c + i) (map just (drop i xs)) (drop i bs)
-  name_passes h eq =
-      let e : c + (i + 1) ≡ c + i + 1 = omega arith in
-      ap (λ x. fault x (map just (drop (i + 1) xs)) (drop (i + 1) bs)) e
-      ∙ sym (name_here ∙ fault_more (c + i) i _ _ bs h ∙ ap (λ b. cond b (fault (c + i + 1) (map just (drop (i + 1) xs)) (drop (i + 1) bs)) (Some (c + i))) (eq-eqb _ _ eq))
-
-pub name_right : (c i : ℕ) (xs bs : List ℕ) → length xs ≤ i → None ≡ fault (c + i) (map just (drop i xs)) (drop i bs)
+pub name_at : (c k : ℕ) (xs bs : List ℕ) (few : Bool) → (length bs < length xs → few ≡ true) → (length xs ≤ length bs → few ≡ false)
+    → fault (c + k) (map just xs) bs ≡ fault_at c few (position_from (λ p. not (eqb p.0 p.1)) k (zip bs xs))
 unfolding fault
-name_right c i xs bs h = ap (λ ks. fault (c + i) (map just ks) (drop i bs)) (sym (drop_all i xs h))
+name_at c k [] [] few s l = passes c few (l (omega arith))
+name_at c k [] (b ∷ bs) few s l = passes c few (l (omega arith))
+name_at c k (x ∷ xs) [] few s l = ends c few (s (omega arith))
+name_at c k (x ∷ xs) (b ∷ bs) few s l =
+    step (eqb b x) c k few (λ y. fault y (map just xs) bs) _ (name_at c (k + 1) xs bs few (λ m. s (omega arith)) (λ m. l (omega arith)))
+
+-- from the first byte on
+
+pub digits_fault : (c n : ℕ) (bs : List ℕ) (few : Bool) (r : Option ℕ) (f : Option Fault) → f ≡ fault_at c few r → r ≡ position_from (λ b. not (is_some (hex_digit b))) 0 bs
+    → length bs ≤ n → (length bs < n → few ≡ true) → (n ≤ length bs → few ≡ false) → f ≡ fault c (replicate n digit) bs
+digits_fault c n bs few r f e p h s l =
+    let z : c + 0 ≡ c = omega arith in
+    e ∙ ap (fault_at c few) p ∙ sym (digits_at c n 0 bs few h s l) ∙ ap (λ x. fault x (replicate n digit) bs) z
+
+pub name_fault : (c : ℕ) (xs bs : List ℕ) (few : Bool) (r : Option ℕ) (f : Option Fault) → f ≡ fault_at c few r → r ≡ position_from (λ p. not (eqb p.0 p.1)) 0 (zip bs xs)
+    → (length bs < length xs → few ≡ true) → (length xs ≤ length bs → few ≡ false) → f ≡ fault c (map just xs) bs
+name_fault c xs bs few r f e p s l =
+    let z : c + 0 ≡ c = omega arith in
+    e ∙ ap (fault_at c few) p ∙ sym (name_at c 0 xs bs few s l) ∙ ap (λ x. fault x (map just xs) bs) z

@@ -9,19 +9,21 @@ use Rattle.text.specs.declared.refusal.TextRefusal.{TextRefusal}
 use Rattle.text.specs.declared.refusal.TextRefusal.TheVariants.{Names, Row, Rows, Word}
 use Rattle.text.proofs.Hexadecimal.{digit_back, length_hex, onto_hex}
 use Rattle.text.proofs.Stands.{row_stands, spelled_stands}
+use Rattle.text.specs.declared.refusal.Fault.{Fault}
+use Rattle.text.specs.declared.refusal.Fault.TheVariants.{At}
 
 -- Accepted is printed
 
 err_ok : {A : Type 0} (e : TextRefusal) (a : A) → ◌≡◌ {A = Result A TextRefusal} (Err e) (Ok a) → ⊥
 err_ok e a p = let z : ◌≡◌ {A = ℕ} 0 1 = cc in omega arith
 
-record JudgedOk (o : Option ℕ) (v w : Raw) : Type 0 where
+record JudgedOk (o : Option Fault) (v w : Raw) : Type 0 where
   right : o ≡ None
   has : has_type v ≡ true
   is : v ≡ w
 
-judged_ok : (r : ℕ) (o : Option ℕ) (v w : Raw) → judged r o v ≡ Ok w → JudgedOk o v w
-judged_ok r (Some c) v w e = absurd (err_ok (Row r c) w e)
+judged_ok : (r : ℕ) (o : Option Fault) (v w : Raw) → judged r o v ≡ Ok w → JudgedOk o v w
+judged_ok r (Some f) v w e = absurd (err_ok (Row r f) w e)
 judged_ok r None v w e = typed (has_type v) refl e
   where
     typed : (t : Bool) → has_type v ≡ t → cond t (Ok v) (Err (Word r Unlisted)) ≡ Ok w → JudgedOk None v w
@@ -62,8 +64,8 @@ rows_accepted (suc n) r (b ∷ bs) ws e =
     let w = row_accepted (r + 1) (b ∷ bs) t.first t.row in
     rw t.is (ap suc i.0, (w.0, i.1), ap (λ xs. row_of t.first ++ xs) i.2 ∙ w.1)
 
-named_ok : (o : Option ℕ) (a : Answer) (ws : List Raw) → behind_names o a ≡ Ok ws → (o ≡ None) × (a ≡ Ok ws)
-named_ok (Some c) a ws e = absurd (err_ok (Names c) ws e)
+named_ok : (o : Option Fault) (a : Answer) (ws : List Raw) → behind_names o a ≡ Ok ws → (o ≡ None) × (a ≡ Ok ws)
+named_ok (Some f) a ws e = absurd (err_ok (Names f) ws e)
 named_ok None a ws e = (refl, e)
 
 accepted_is_printed : (bs : List ℕ) (ws : List Raw) → answer bs ≡ Ok ws → (length ws ≡ 80) × AllValid ws × (text_of ws ≡ bs)
@@ -82,7 +84,7 @@ fault_hex c (suc n) x ks more =
     let d : ℕ = x / 16 ^ n % 16 in
     let e : is_some (hex_digit (digit_byte d)) ≡ true = ap is_some (digit_back d (omega arith)) in
     let a : c + 1 + n ≡ c + suc n = omega arith in
-    ap (λ t. cond t (fault (c + 1) (replicate n digit ++ ks) (hex n x ++ more)) (Some c)) e ∙ fault_hex (c + 1) n x ks more ∙ ap (λ k. fault k ks more) a
+    ap (λ t. cond t (fault (c + 1) (replicate n digit ++ ks) (hex n x ++ more)) (Some (At c))) e ∙ fault_hex (c + 1) n x ks more ∙ ap (λ k. fault k ks more) a
 
 tail_right : (x : ℕ) (more : List ℕ) → fault 3 (replicate 16 digit ++ (just 10 ∷ [])) ((hex 16 x ++ (10 ∷ [])) ++ more) ≡ None
 unfolding fault

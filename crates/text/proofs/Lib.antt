@@ -1,5 +1,4 @@
 -- Lemmas on texts, by topic.
-pub mod Cuts
 pub mod Faults
 pub mod Alike
 pub mod Numbers

@@ -7,13 +7,15 @@ use Rattle.words.specs.Raw.{body}
 use Rattle.text.specs.Text.{Column, just, letter, digit, stands, fault, row_line, row_word, value}
 use Rattle.text.specs.Laws.{hex, row_of}
 use Rattle.text.proofs.Hexadecimal.{AllDigits, hex_onto, value_lt}
+use Rattle.text.specs.declared.refusal.Fault.{Fault}
+use Rattle.text.specs.declared.refusal.Fault.TheVariants.{Ended, At}
 
-some_none : (c : ℕ) → Some c ≡ None → ⊥
-some_none c e = let z : ◌≡◌ {A = ℕ} 0 1 = cc in omega arith
+some_none : (f : Fault) → Some f ≡ None → ⊥
+some_none f e = let z : ◌≡◌ {A = ℕ} 0 1 = cc in omega arith
 
-stood : (t : Bool) (c : ℕ) (x : Option ℕ) → cond t x (Some c) ≡ None → (t ≡ true) × (x ≡ None)
+stood : (t : Bool) (c : ℕ) (x : Option Fault) → cond t x (Some (At c)) ≡ None → (t ≡ true) × (x ≡ None)
 stood true c x e = (refl, e)
-stood false c x e = absurd (some_none c e)
+stood false c x e = absurd (some_none (At c) e)
 
 -- one column
 pub record Stood (c : ℕ) (k : Column) (ks : List Column) (bs : List ℕ) : Type 0 where
@@ -25,7 +27,7 @@ pub record Stood (c : ℕ) (k : Column) (ks : List Column) (bs : List ℕ) : Typ
 
 pub first_stands : (c : ℕ) (k : Column) (ks : List Column) (bs : List ℕ) → fault c (k ∷ ks) bs ≡ None → Stood c k ks bs
 unfolding fault
-first_stands c k ks [] e = absurd (some_none 0 e)
+first_stands c k ks [] e = absurd (some_none Ended e)
 first_stands c k ks (b ∷ bs) e =
     let s = stood (stands k b) c (fault (c + 1) ks bs) e in
     record { first = b; rest = bs; is = refl; may = s.0; behind = s.1 }
@@ -48,7 +50,7 @@ pub record DigitsStood (c n : ℕ) (ks : List Column) (bs : List ℕ) : Type 0 w
 pub digits_stand : (c n : ℕ) (ks : List Column) (bs : List ℕ) → fault c (replicate n digit ++ ks) bs ≡ None → DigitsStood c n ks bs
 unfolding fault
 digits_stand c zero ks bs e = record { enough = omega arith; digits = tt; behind = ap (λ x. fault x ks bs) (omega arith) ∙ e }
-digits_stand c (suc n) ks [] e = absurd (some_none 0 e)
+digits_stand c (suc n) ks [] e = absurd (some_none Ended e)
 digits_stand c (suc n) ks (b ∷ bs) e =
     let s = stood (stands digit b) c (fault (c + 1) (replicate n digit ++ ks) bs) e in
     let i = digits_stand (c + 1) n ks bs s.1 in

@@ -1,38 +1,15 @@
 -- The rows one by one: what is read so far and what the rest answers.
-use Rattle.std.proofs.Common.{◌≡◌, ℕ, suc, ◌+◌, ◌-◌, ◌<◌, ◌≤◌, Bool, true, false, cond, eqb, List, [], ◌∷◌, ◌++◌, length, get_or, take, drop, set, None, Ok, Err, sym, refl, ap, ◌∙◌, append_assoc, arith}
+use Rattle.std.proofs.Common.{◌≡◌, ℕ, suc, ◌+◌, ◌-◌, ◌<◌, ◌≤◌, cond, List, [], ◌∷◌, ◌++◌, length, take, drop, set, is_ok, Some, None, Ok, Err, Option, sym, refl, ap, ◌∙◌, append_assoc, append-nil, arith}
 use Rattle.std.proofs.lemmas.List.{take_more_set, take_all, map-append}
-use Rattle.words.specs.Raw.{Raw, data_word, control_word, header, body}
+use Rattle.words.specs.Raw.{Raw}
 use Rattle.words.specs.Words.{raw, raws}
 use Rattle.words.specs.declared.word.Word.{Word}
-use Rattle.words.specs.declared.word.Word.TheVariants.{Data, Control}
-use Rattle.text.specs.Text.{Answer, fault, row_line, row_word, value, has_type, judged, row_answer, then, rows, answer, names_line, behind_names}
+use Rattle.text.specs.Text.{Answer, fault, row_answer, then, rows, answer, names_line, behind_names}
 use Rattle.text.specs.Reading.{before}
+use Rattle.text.specs.Tokens.{line_answer}
+use Rattle.text.specs.declared.refusal.Fault.{Fault}
 use Rattle.text.specs.declared.refusal.TextRefusal.{TextRefusal}
-use Rattle.text.specs.declared.refusal.TextRefusal.TheVariants.{Rows, Word as WordRefused}
-use Rattle.words.specs.declared.refusal.WordRefusal.TheVariants.{Unlisted}
-
--- one row
-
-same_raw : (w v : Raw) → header w ≡ header v → body w ≡ body v → w ≡ v
-same_raw (data_word a) (data_word b) h e = ap data_word e
-same_raw (data_word a) (control_word b) h e = absurd (omega arith)
-same_raw (control_word a) (data_word b) h e = absurd (omega arith)
-same_raw (control_word a) (control_word b) h e = ap control_word e
-
-typed : (w : Word) → has_type (raw w) ≡ true
-typed (Data b) = refl
-typed (Control c) = c.typed
-
-body_of_cond : (t : Bool) (b : ℕ) → body (cond t (data_word b) (control_word b)) ≡ b
-body_of_cond true b = refl
-body_of_cond false b = refl
-
-pub row_right : (r : ℕ) (bs : List ℕ) (w : Word) → fault 1 row_line bs ≡ None → header (raw w) ≡ header (row_word bs) → body (raw w) ≡ value (take 16 (drop 2 bs))
-    → Ok (raw w) ≡ row_answer r bs
-row_right r bs w f h b =
-    let e : raw w ≡ row_word bs = same_raw (raw w) (row_word bs) h (b ∙ sym (body_of_cond (eqb (get_or bs 0 0) 100) (value (take 16 (drop 2 bs))))) in
-    let t : has_type (row_word bs) ≡ true = ap has_type (sym e) ∙ typed w in
-    sym (ap (λ x. judged r x (row_word bs)) f ∙ ap (λ x. cond x (Ok (row_word bs)) (Err (WordRefused r Unlisted))) t ∙ ap Ok (sym e))
+use Rattle.text.specs.declared.refusal.TextRefusal.TheVariants.{Rows}
 
 -- all rows
 
@@ -60,9 +37,9 @@ before_then : (ws : List Raw) (w : Raw) (a : Answer) → before (ws ++ (w ∷ []
 before_then ws w (Ok vs) = ap Ok (append_assoc ws (w ∷ []) vs)
 before_then ws w (Err e) = refl
 
-append_none : (ws : List Raw) → ws ++ [] ≡ ws
-append_none [] = refl
-append_none (w ∷ ws) = ap (λ vs. w ∷ vs) (append_none ws)
+before_none : (a : Answer) → before [] a ≡ a
+before_none (Ok vs) = refl
+before_none (Err e) = refl
 
 module _ (r : ℕ) (words : List Word) (bs : List ℕ) (all : Answer) (inv : before (raws (take r words)) (rows r (80 - r) bs) ≡ all) where
   due : r < 80 → rows r (80 - r) bs ≡ rows r (suc (80 - (r + 1))) bs
@@ -92,13 +69,17 @@ module _ (r : ℕ) (words : List Word) (bs : List ℕ) (all : Answer) (inv : bef
   pub rows_done : 80 ≤ r → length words ≡ 80 → length bs ≡ 0 → Ok (raws words) ≡ all
   rows_done h l none =
       let t = take_all r words (omega arith) in
-      ap Ok (sym (append_none (raws (take r words)) ∙ ap raws t)) ∙ ap (before (raws (take r words))) (sym (over h ∙ rows_none r bs none)) ∙ inv
+      ap Ok (sym (append-nil (raws (take r words)) ∙ ap raws t)) ∙ ap (before (raws (take r words))) (sym (over h ∙ rows_none r bs none)) ∙ inv
 
   pub rows_beyond : 80 ≤ r → r ≤ 80 → 0 < length bs → Err (Rows 80) ≡ all
   rows_beyond h k some =
       let e : 80 ≡ r = omega arith in
       ap (λ n. Err (Rows n)) e ∙ ap (before (raws (take r words))) (sym (over h ∙ rows_over r bs some)) ∙ inv
 
--- the rows behind right names are the whole answer
-pub named : (bs rest : List ℕ) → fault 1 names_line bs ≡ None → rest ≡ drop 10 bs → rows 0 80 rest ≡ answer bs
-named bs rest f e = ap (rows 0 80) e ∙ ap (λ o. behind_names o (rows 0 80 (drop 10 bs))) (sym f)
+pub faultless : (row : Option ℕ) (o : Option Fault) (u : Unit {0}) → Ok u ≡ line_answer row o → o ≡ None
+faultless row None u e = refl
+faultless row (Some f) u e = let z : ◌≡◌ {A = ℕ} 0 1 = ap (λ r. cond (is_ok r) 0 1) e in absurd (omega arith)
+
+-- no word is read yet: the rows behind right names are the whole answer
+pub none_read : (bs rest : List ℕ) → fault 1 names_line bs ≡ None → rest ≡ drop 10 bs → before [] (rows 0 80 rest) ≡ answer bs
+none_read bs rest f e = before_none (rows 0 80 rest) ∙ ap (rows 0 80) e ∙ ap (λ o. behind_names o (rows 0 80 (drop 10 bs))) (sym f)

@@ -4,6 +4,8 @@ use Rattle.std.specs.Option.{unwrap_or}
 use Rattle.words.specs.Types.{listed}
 use Rattle.words.specs.Raw.{Raw, data_word, control_word, type_of}
 use Rattle.words.specs.declared.refusal.WordRefusal.TheVariants.{Unlisted}
+use Rattle.text.specs.declared.refusal.Fault.{Fault}
+use Rattle.text.specs.declared.refusal.Fault.TheVariants.{Ended, At}
 use Rattle.text.specs.declared.refusal.TextRefusal.{TextRefusal}
 use Rattle.text.specs.declared.refusal.TextRefusal.TheVariants.{Names, Row, Rows, Word}
 
@@ -32,11 +34,11 @@ names_line = map just (codes "head body" ++ (10 ∷ []))
 abbrev pub row_line : List Column
 row_line = letter ∷ just 32 ∷ (replicate 16 digit ++ (just 10 ∷ []))
 
--- the column of the first byte that cannot stand in its column, 0 where the bytes end first; c is the column of the first byte
-unfoldable pub fault : ℕ → List Column → List ℕ → Option ℕ
+-- the first byte that cannot stand in its column, or the end where the bytes end first; c is the column of the first byte
+unfoldable pub fault : ℕ → List Column → List ℕ → Option Fault
 fault c [] bs = None
-fault c (k ∷ ks) [] = Some 0
-fault c (k ∷ ks) (b ∷ bs) = cond (stands k b) (fault (c + 1) ks bs) (Some c)
+fault c (k ∷ ks) [] = Some Ended
+fault c (k ∷ ks) (b ∷ bs) = cond (stands k b) (fault (c + 1) ks bs) (Some (At c))
 
 -- What a row says
 
@@ -53,8 +55,8 @@ has_type (data_word b) = true
 has_type (control_word b) = listed (type_of b)
 
 -- row r, from a row's fault and word: 62 before 12
-abbrev pub judged : ℕ → Option ℕ → Raw → Result Raw TextRefusal
-judged r (Some c) w = Err (Row r c)
+abbrev pub judged : ℕ → Option Fault → Raw → Result Raw TextRefusal
+judged r (Some f) w = Err (Row r f)
 judged r None w = cond (has_type w) (Ok w) (Err (Word r Unlisted))
 
 abbrev pub row_answer : ℕ → List ℕ → Result Raw TextRefusal
@@ -78,8 +80,8 @@ rows r zero (b ∷ bs) = Err (Rows r)
 rows r (suc n) [] = Err (Rows r)
 rows r (suc n) (b ∷ bs) = then (row_answer (r + 1) (b ∷ bs)) (rows (r + 1) n (drop 19 (b ∷ bs)))
 
-abbrev pub behind_names : Option ℕ → Answer → Answer
-behind_names (Some c) a = Err (Names c)
+abbrev pub behind_names : Option Fault → Answer → Answer
+behind_names (Some f) a = Err (Names f)
 behind_names None a = a
 
 -- what a text is answered with

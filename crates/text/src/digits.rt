@@ -1,5 +1,5 @@
 // Hexadecimal digits.
-ghost use Rattle.std.specs.Prelude.{◌≡◌, ◌≤◌, length};
+ghost use Rattle.std.specs.Prelude.{◌≡◌, ◌+◌, ◌*◌, ◌^◌, ◌<◌, ◌≤◌, length, unwrap_or};
 ghost use Rattle.text.specs.Text.{hex_digit, value as value_of_digits};
 
 // The value of a lower-case hexadecimal digit.
@@ -13,14 +13,20 @@ pub fn digit(c: char) -> Option<u64>
     }
 }
 
+// The value with one more digit behind it.
+fn with_digit(value: u64, byte: u8) -> u64
+    requires { value < 2 ^ 60 }
+    ensures { result ≡ value * 16 + unwrap_or (hex_digit byte) 0 }
+{
+    value * 16 + digit(byte as char).unwrap_or(0)
+}
+
 // The number that the digits write, the highest first.
 pub(crate) fn value(digits: &[u8]) -> u64
     requires { length digits.now ≤ 16 }
     ensures { result ≡ value_of_digits digits.now }
 {
-    let mut value = 0;
-    for byte in digits {
-        value = value * 16 + digit(*byte as char).unwrap_or(0);
-    }
-    value
+    digits
+        .iter()
+        .fold(0, |value, byte| with_digit(value, *byte))
 }

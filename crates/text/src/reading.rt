@@ -6,7 +6,7 @@ ghost use Rattle.text.specs.Reading.{seen};
 
 use crate::parts::behind;
 use crate::refusal::TextRefusal;
-use crate::rows::{NAMES_LENGTH, ROW_LENGTH, names_fault, word};
+use crate::rows::{NAMES_LENGTH, ROW_LENGTH, names, word};
 use words::word::Word;
 
 // How many rows a text has.
@@ -15,19 +15,17 @@ pub const ROWS: usize = 80;
 // How many bytes of a text an answer may depend on: one more than a right text has.
 pub const ENOUGH: usize = 1531;
 
-fn read(text: &[u8]) -> Result<[Word; 80], TextRefusal>
+fn read(text: &[u8]) -> Result<[Word; ROWS], TextRefusal>
     ensures { seen result ≡ answer text.now }
 {
-    if let Some(column) = names_fault(text) {
-        return Err(TextRefusal::Names { column });
-    }
-    let mut words = [Word::Data(0); 80];
+    names(text)?;
+    let mut words = [Word::Data(0); ROWS];
     let mut rest = behind(text, NAMES_LENGTH);
-    for row in 0..ROWS {
+    for (row, place) in words.iter_mut().enumerate() {
         if rest.is_empty() {
             return Err(TextRefusal::Rows { row });
         }
-        words[row] = word(rest, row + 1)?;
+        *place = word(rest, row + 1)?;
         rest = behind(rest, ROW_LENGTH);
     }
     if rest.is_empty() {
@@ -38,7 +36,8 @@ fn read(text: &[u8]) -> Result<[Word; 80], TextRefusal>
 }
 
 // The eighty words that the text says, or its first fault from the top. The laws of the text stand here.
-pub fn words_of(text: &[u8]) -> Result<[Word; 80], TextRefusal>
+#[tactic(auto, using(crate::proofs::Inverses::inverse, crate::proofs::Firsts::early))]
+pub fn words_of(text: &[u8]) -> Result<[Word; ROWS], TextRefusal>
     ensures is { seen result ≡ answer text.now }
     ensures inverse { Inverse }
     ensures early { Early }

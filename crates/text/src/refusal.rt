@@ -1,23 +1,51 @@
 // Why a text is refused, and at which row and column.
 ghost use Rattle.std.specs.Prelude.{◌≡◌};
-ghost use Rattle.text.specs.Refusals.{number as number_of, row as row_of, column as column_of};
+ghost use Rattle.text.specs.Refusals.{number as number_of, row as row_of, fault_column, column as column_of};
 
 use numbered_refusal::Refusal;
 use std::error::Error;
 use std::fmt;
 use words::refusal::WordRefusal;
 
-// Rows count from 1 behind the names, columns from 1 in their row; column 0 says that the text ends first.
+// Why a line is no line of a text.
+#[derive(Clone, Copy, PartialEq, Eq, Debug, Drop)]
+pub enum Fault {
+    // The text ends in the line.
+    Ended,
+    // The first byte that cannot stand in its column, from 1.
+    At(usize),
+}
+
+// Rows count from 1 behind the names.
 #[derive(Clone, Copy, PartialEq, Eq, Debug, Drop)]
 pub enum TextRefusal {
     // The names are wrong or missing.
-    Names { column: usize },
+    Names { fault: Fault },
     // A row is begun and goes wrong.
-    Row { row: usize, column: usize },
+    Row { row: usize, fault: Fault },
     // The text ends where a row is due or goes on behind the last one; so many rows were read.
     Rows { row: usize },
     // The row is right, and its head and body make no word.
     Word { row: usize, refusal: WordRefusal },
+}
+
+impl Fault {
+    // The column that is printed, 0 where the text ends first.
+    pub fn column(&self) -> usize
+        ensures { result ≡ fault_column self.now }
+    {
+        match *self {
+            Fault::Ended => 0,
+            Fault::At(column) => column,
+        }
+    }
+}
+
+impl fmt::Display for Fault {
+    fn fmt<W: fmt::Write>(&self, f: &mut fmt::Formatter<W>) -> fmt::Result {
+        let column = self.column();
+        write!(f, "{column}")
+    }
 }
 
 impl Refusal for TextRefusal {
@@ -27,20 +55,20 @@ impl Refusal for TextRefusal {
 
     fn number(&self) -> u8 {
         match *self {
-            TextRefusal::Names { column: _ } => 61,
-            TextRefusal::Row { row: _, column: _ } => 62,
-            TextRefusal::Rows { row: _ } => 63,
-            TextRefusal::Word { row: _, refusal } => refusal.number(),
+            TextRefusal::Names { .. } => 61,
+            TextRefusal::Row { .. } => 62,
+            TextRefusal::Rows { .. } => 63,
+            TextRefusal::Word { refusal, .. } => refusal.number(),
         }
     }
 
     // The row.
     fn place(&self) -> usize {
         match *self {
-            TextRefusal::Names { column: _ } => 0,
-            TextRefusal::Row { row, column: _ } => row,
-            TextRefusal::Rows { row } => row,
-            TextRefusal::Word { row, refusal: _ } => row,
+            TextRefusal::Names { .. } => 0,
+            TextRefusal::Row { row, .. }
+            | TextRefusal::Rows { row }
+            | TextRefusal::Word { row, .. } => row,
         }
     }
 }
@@ -51,10 +79,9 @@ impl TextRefusal {
         ensures { result ≡ column_of self.now }
     {
         match *self {
-            TextRefusal::Names { column } => column,
-            TextRefusal::Row { row: _, column } => column,
-            TextRefusal::Rows { row: _ } => 0,
-            TextRefusal::Word { row: _, refusal: _ } => 17,
+            TextRefusal::Names { fault } | TextRefusal::Row { fault, .. } => fault.column(),
+            TextRefusal::Rows { .. } => 0,
+            TextRefusal::Word { .. } => 17,
         }
     }
 }
@@ -62,14 +89,12 @@ impl TextRefusal {
 impl fmt::Display for TextRefusal {
     fn fmt<W: fmt::Write>(&self, f: &mut fmt::Formatter<W>) -> fmt::Result {
         match *self {
-            TextRefusal::Names { column } => write!(
-                f,
-                "61: the names are wrong or missing, at column {column}"
-            ),
-            TextRefusal::Row { row, column } => write!(
-                f,
-                "62: the row is malformed, at row {row}, column {column}"
-            ),
+            TextRefusal::Names { fault } => {
+                write!(f, "61: the names are wrong or missing, at column {fault}")
+            }
+            TextRefusal::Row { row, fault } => {
+                write!(f, "62: the row is malformed, at row {row}, column {fault}")
+            }
             TextRefusal::Rows { row } => write!(f, "63: not eighty rows, after row {row}"),
             TextRefusal::Word { row, refusal } => write!(f, "{refusal}, at row {row}"),
         }

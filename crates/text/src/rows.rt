@@ -1,13 +1,14 @@
 // One line of the text.
-ghost use Rattle.std.specs.Prelude.{◌≡◌, ◌+◌, ◌<◌, [], ◌∷◌, drop};
+ghost use Rattle.std.specs.Prelude.{◌≡◌, ◌+◌, ◌<◌, [], ◌∷◌, Some, None, drop};
 ghost use Rattle.words.specs.Raw.{header as header_of};
-ghost use Rattle.text.specs.Text.{just, fault as first_fault, names_line, row_line, row_word, row_answer};
+ghost use Rattle.text.specs.Text.{just, fault as first_fault, names_line, row_word, row_answer};
 ghost use Rattle.text.specs.Reading.{seen_row};
+ghost use Rattle.text.specs.Tokens.{IsLine, line_columns, line_answer};
 
 use crate::digits::value;
 use crate::parts::{behind, front};
-use crate::refusal::TextRefusal;
-use crate::tokens::{BODY_DIGITS, Name, Part, Token};
+use crate::refusal::{Fault, TextRefusal};
+use crate::tokens::{BODY_DIGITS, NAME_BYTES, Name, Part, Token, departure};
 use words::word::Word;
 
 // How many bytes the names have with their byte 10, and how many a row has.
@@ -16,58 +17,53 @@ pub const NAMES_LENGTH: usize = 10;
 pub const ROW_LENGTH: usize = 19;
 
 // The space or the byte 10 that stands behind a token, `at` bytes into its line.
-fn mark_fault(line: &[u8], at: usize, mark: u8) -> Option<usize>
-    requires { at < 50 }
+fn mark_fault(line: &[u8], at: usize, mark: u8) -> Option<Fault>
+    requires { at < 90 }
     ensures { result ≡ first_fault (at + 1) (just mark ∷ []) (drop at line.now) }
 {
-    match behind(line, at) {
-        [] => Some(0),
-        [byte, ..] if *byte == mark => None,
-        _ => Some(at + 1),
+    departure(behind(line, at), &[mark], at + 1)
+}
+
+// The first fault of a line of two tokens.
+fn line_fault(line: &[u8], head: &Part, body: &Part) -> Option<Fault>
+    requires { IsLine line.now head.now body.now }
+    ensures { result ≡ first_fault 1 (line_columns head.now.token body.now.token) line.now }
+{
+    head.fault()
+        .or(mark_fault(line, head.end(), b' '))
+        .or(body.fault())
+        .or(mark_fault(line, body.end(), b'\n'))
+}
+
+// Refuses a line with a fault.
+fn check(line: &[u8], head: &Part, body: &Part) -> Result<(), TextRefusal>
+    requires { IsLine line.now head.now body.now }
+    ensures { result ≡ line_answer head.now.row (first_fault 1 (line_columns head.now.token body.now.token) line.now) }
+{
+    match line_fault(line, head, body) {
+        Some(fault) => Err(head.refusal(fault)),
+        None => Ok(()),
     }
 }
 
-// The column of the first byte that cannot stand in the names, 0 where the text ends first.
-pub(crate) fn names_fault(text: &[u8]) -> Option<usize>
-    ensures { result ≡ first_fault 1 names_line text.now }
+// Refuses a text that does not begin with the names.
+pub(crate) fn names(text: &[u8]) -> Result<(), TextRefusal>
+    ensures { result ≡ line_answer None (first_fault 1 names_line text.now) }
 {
     let head = Part {
-        token: Token::Name(Name::Head, front(text, 4)),
-        row: 0,
+        token: Token::Name(Name::Head, front(text, NAME_BYTES)),
+        row: None,
         column: 1,
     };
     let body = Part {
-        token: Token::Name(Name::Body, front(behind(text, 5), 4)),
-        row: 0,
+        token: Token::Name(Name::Body, front(behind(text, 5), NAME_BYTES)),
+        row: None,
         column: 6,
     };
-    head.fault()
-        .or(mark_fault(text, 4, b' '))
-        .or(body.fault())
-        .or(mark_fault(text, 9, b'\n'))
+    check(text, &head, &body)
 }
 
-// The same of the row that the text begins with.
-fn row_fault(text: &[u8], row: usize) -> Option<usize>
-    ensures { result ≡ first_fault 1 row_line text.now }
-{
-    let head = Part {
-        token: Token::Head(front(text, 1)),
-        row,
-        column: 1,
-    };
-    let body = Part {
-        token: Token::Body(front(behind(text, 2), BODY_DIGITS)),
-        row,
-        column: 3,
-    };
-    head.fault()
-        .or(mark_fault(text, 1, b' '))
-        .or(body.fault())
-        .or(mark_fault(text, 18, b'\n'))
-}
-
-// The header number that the kind letter says.
+// The header that the kind letter says, a number since Word::new takes one.
 fn header(text: &[u8]) -> u8
     ensures { result ≡ header_of (row_word text.now) }
 {
@@ -81,12 +77,17 @@ fn header(text: &[u8]) -> u8
 pub(crate) fn word(text: &[u8], row: usize) -> Result<Word, TextRefusal>
     ensures { seen_row result ≡ row_answer row text.now }
 {
-    if let Some(column) = row_fault(text, row) {
-        return Err(TextRefusal::Row { row, column });
-    }
-    let body = value(front(behind(text, 2), BODY_DIGITS));
-    match Word::new(header(text), body) {
-        Ok(word) => Ok(word),
-        Err(refusal) => Err(TextRefusal::Word { row, refusal }),
-    }
+    let digits = front(behind(text, 2), BODY_DIGITS);
+    let head = Part {
+        token: Token::Head(front(text, 1)),
+        row: Some(row),
+        column: 1,
+    };
+    let body = Part {
+        token: Token::Body(digits),
+        row: Some(row),
+        column: 3,
+    };
+    check(text, &head, &body)?;
+    Word::new(header(text), value(digits)).map_err(|refusal| TextRefusal::Word { row, refusal })
 }

@@ -1,12 +1,15 @@
 // The tokens of a line: the parts that say something. Each borrows its bytes of the text, fewer where the text ends first.
-ghost use Rattle.std.specs.Prelude.{◌≡◌, ◌+◌, ◌<◌, ◌≤◌, [], ◌∷◌, map, length, replicate};
+ghost use Rattle.std.specs.Prelude.{◌≡◌, ◌+◌, ◌^◌, ◌<◌, ◌≤◌, [], ◌∷◌, map, length, replicate, IfSome};
 ghost use Rattle.text.specs.Text.{just, digit as digit_column, letter, fault as first_fault};
-ghost use Rattle.text.specs.Tokens.{spelled, token_fault, Short};
+ghost use Rattle.text.specs.Tokens.{fault_at, spelled, token_columns, token_fault, refusal_at, Short};
 
 use crate::digits::digit;
+use crate::refusal::{Fault, TextRefusal};
 use std::str::from_utf8;
 
-// How many digits a body has.
+// How many bytes a name has, and how many digits a body.
+pub const NAME_BYTES: usize = 4;
+
 pub const BODY_DIGITS: usize = 16;
 
 // The names of the two columns.
@@ -26,31 +29,38 @@ pub enum Token<'a> {
     Body(&'a [u8]),
 }
 
-// A token and its place: its row, 0 for the names, and the column of its first byte, from 1.
+// A token and its place: its row, none for the names, and the column of its first byte, from 1.
 #[derive(Clone, Copy)]
 pub struct Part<'a> {
     pub token: Token<'a>,
-    pub row: usize,
+    pub row: Option<usize>,
     pub column: usize,
 }
 
-// The column of the first byte that is not the one expected there.
-fn departure(bytes: &[u8], expected: &[u8], column: usize) -> Option<usize>
+// The byte at `wrong` of a token's bytes is the fault, or else the end, where they are too few.
+fn fault_of(wrong: Option<usize>, too_few: bool, column: usize) -> Option<Fault>
+    requires { IfSome wrong (λ i. column + i < 2 ^ 64) }
+    ensures { result ≡ fault_at column too_few wrong }
+{
+    match wrong {
+        Some(i) => Some(Fault::At(column + i)),
+        None if too_few => Some(Fault::Ended),
+        None => None,
+    }
+}
+
+// The first byte that is not the one expected there.
+pub(crate) fn departure(bytes: &[u8], expected: &[u8], column: usize) -> Option<Fault>
     requires { column + length expected.now < 100 }
     ensures { result ≡ first_fault column (map just expected.now) bytes.now }
 {
-    for (i, byte) in expected.iter().enumerate() {
-        if i == bytes.len() {
-            return Some(0);
-        }
-        if bytes[i] != *byte {
-            return Some(column + i);
-        }
-    }
-    None
+    let mut pairs = bytes.iter().zip(expected);
+    let wrong = pairs.position(|(byte, due)| byte != due);
+    fault_of(wrong, bytes.len() < expected.len(), column)
 }
 
-fn name_fault(due: Name, bytes: &[u8], column: usize) -> Option<usize>
+#[tactic(auto, using(crate::proofs::Faults::fault_spelled))]
+fn name_fault(due: Name, bytes: &[u8], column: usize) -> Option<Fault>
     requires { column < 50 }
     ensures { result ≡ first_fault column (map just (spelled due)) bytes.now }
 {
@@ -62,38 +72,31 @@ fn name_fault(due: Name, bytes: &[u8], column: usize) -> Option<usize>
     }
 }
 
-fn head_fault(bytes: &[u8], column: usize) -> Option<usize>
+#[tactic(auto, unfolding(crate::specs::Text::fault))]
+fn head_fault(bytes: &[u8], column: usize) -> Option<Fault>
     ensures { result ≡ first_fault column (letter ∷ []) bytes.now }
 {
     match bytes {
-        [] => Some(0),
+        [] => Some(Fault::Ended),
         [kind, ..] => match *kind as char {
             'd' | 'c' => None,
-            _ => Some(column),
+            _ => Some(Fault::At(column)),
         },
     }
 }
 
-fn body_fault(bytes: &[u8], column: usize) -> Option<usize>
+fn body_fault(bytes: &[u8], column: usize) -> Option<Fault>
     requires few { length bytes.now ≤ 16 }
     requires low { column < 50 }
     ensures { result ≡ first_fault column (replicate 16 digit_column) bytes.now }
 {
-    for (i, byte) in bytes.iter().enumerate() {
-        if digit(*byte as char).is_none() {
-            return Some(column + i);
-        }
-    }
-    if bytes.len() < BODY_DIGITS {
-        Some(0)
-    } else {
-        None
-    }
+    let wrong = bytes.iter().position(|byte| digit(*byte as char).is_none());
+    fault_of(wrong, bytes.len() < BODY_DIGITS, column)
 }
 
 impl<'a> Part<'a> {
-    // The column of the first byte of the token that cannot stand there, 0 where the text ends first.
-    pub(crate) fn fault(&self) -> Option<usize>
+    // The first fault of the token.
+    pub(crate) fn fault(&self) -> Option<Fault>
         requires { Short self.now }
         ensures { result ≡ token_fault self.now }
     {
@@ -101,6 +104,30 @@ impl<'a> Part<'a> {
             Token::Name(due, bytes) => name_fault(due, bytes, self.column),
             Token::Head(bytes) => head_fault(bytes, self.column),
             Token::Body(bytes) => body_fault(bytes, self.column),
+        }
+    }
+
+    // How many bytes of the line stand before what is behind the token.
+    pub(crate) fn end(&self) -> usize
+        requires from_1 { 1 ≤ self.now.column }
+        requires low { self.now.column < 50 }
+        ensures { result + 1 ≡ self.now.column + length (token_columns self.now.token) }
+    {
+        let width = match self.token {
+            Token::Name(_, _) => NAME_BYTES,
+            Token::Head(_) => 1,
+            Token::Body(_) => BODY_DIGITS,
+        };
+        self.column - 1 + width
+    }
+
+    // The refusal of the line that the token stands in.
+    pub(crate) fn refusal(&self, fault: Fault) -> TextRefusal
+        ensures { result ≡ refusal_at self.now.row fault }
+    {
+        match self.row {
+            None => TextRefusal::Names { fault },
+            Some(row) => TextRefusal::Row { row, fault },
         }
     }
 }

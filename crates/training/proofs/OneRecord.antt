@@ -1,5 +1,5 @@
 -- No two records have the same number.
-use Rattle.std.proofs.Common.{◌≡◌, ℕ, Bool, true, false, cond, eqb, sym, refl, ap, ◌∙◌}
+use Rattle.std.proofs.Common.{◌≡◌, ℕ, ◌<◌, Bool, true, false, cond, eqb, sym, refl, ap, ◌∙◌}
 use Rattle.training.specs.declared.records.Mark.{Mark}
 use Rattle.training.specs.declared.records.Mark.TheVariants.{Gfc16, Gfc32}
 use Rattle.training.specs.declared.records.Update.{Update}
@@ -8,15 +8,21 @@ use Rattle.training.specs.declared.records.State.{State}
 use Rattle.training.specs.declared.records.State.TheVariants.{Ready, Updated, Minimum, Maximum}
 use Rattle.training.specs.declared.records.Control.{Control}
 use Rattle.training.specs.declared.records.Status.{Status}
-use Rattle.training.specs.Numbers.{mark_number, update_number, state_number}
-use Rattle.training.specs.Fields.{flag, control_number, status_number}
-use Rattle.training.proofs.Numbering.{control_parts, status_parts}
+use Rattle.training.specs.Numbers.{mark_number, update_number, state_number, coefficients_number}
+use Rattle.std.specs.Int.{from_bool}
+use Rattle.training.specs.Fields.{control_number, status_number}
+use Rattle.training.specs.Fitting.{update_below, state_below}
+use Rattle.training.proofs.Numbering.{coefficients_parts, control_parts, status_parts}
+
+-- no two things have one value
+abbrev Apart : {X : Type 0} → (X → ℕ) → Type 0
+Apart {X} number = (x y : X) → number x ≡ number y → x ≡ y
 
 -- a function that undoes another leaves no two things with one value
-same_from : {X : Type 0} (number : X → ℕ) (back : ℕ → X) → ((x : X) → back (number x) ≡ x) → (x y : X) → number x ≡ number y → x ≡ y
-same_from number back undone x y e = sym (undone x) ∙ ap back e ∙ undone y
+apart_from : {X : Type 0} (number : X → ℕ) (back : ℕ → X) → ((x : X) → back (number x) ≡ x) → Apart number
+apart_from number back undone x y e = sym (undone x) ∙ ap back e ∙ undone y
 
-flag_back : (b : Bool) → eqb (flag b) 1 ≡ b
+flag_back : (b : Bool) → eqb (from_bool b) 1 ≡ b
 flag_back true = refl
 flag_back false = refl
 
@@ -47,33 +53,39 @@ state_back Updated = refl
 state_back Minimum = refl
 state_back Maximum = refl
 
+same_coefficients : {X : Type 0} (number : X → ℕ) → ((x : X) → number x < 4) → Apart number → Apart (coefficients_number number)
+same_coefficients number fits apart k l e =
+    let p = coefficients_parts number fits k (coefficients_number number l) e in
+    let q = coefficients_parts number fits l (coefficients_number number l) refl in
+    let c1 = apart k.c1 l.c1 (sym p.0 ∙ q.0) in
+    let c0 = apart k.c0 l.c0 (sym p.1 ∙ q.1) in
+    let cm1 = apart k.cm1 l.cm1 (sym p.2 ∙ q.2) in
+    λ i. record { c1 = c1 i; c0 = c0 i; cm1 = cm1 i }
+
 pub same_control : (c d : Control) → control_number c ≡ control_number d → c ≡ d
 same_control c d e =
     let p = control_parts c (control_number d) e in
     let q = control_parts d (control_number d) refl in
-    let flags = same_from flag (λ n. eqb n 1) flag_back in
-    let updates = same_from update_number update_at update_back in
-    let m = same_from mark_number mark_at mark_back c.mark d.mark (sym p.0 ∙ q.0) in
+    let flags = apart_from from_bool (λ n. eqb n 1) flag_back in
+    let marks = apart_from mark_number mark_at mark_back in
+    let updates = same_coefficients update_number update_below (apart_from update_number update_at update_back) in
+    let m = marks c.mark d.mark (sym p.0 ∙ q.0) in
     let f1 = flags c.preset d.preset (sym p.1 ∙ q.1) in
     let f2 = flags c.initialise d.initialise (sym p.2 ∙ q.2) in
     let f3 = flags c.fec_request d.fec_request (sym p.3 ∙ q.3) in
     let f4 = flags c.parallel_lanes d.parallel_lanes (sym p.4 ∙ q.4) in
-    let u1 = updates c.c1 d.c1 (sym p.5 ∙ q.5) in
-    let u2 = updates c.c0 d.c0 (sym p.6 ∙ q.6) in
-    let u3 = updates c.cm1 d.cm1 (sym p.7 ∙ q.7) in
-    λ i. record { mark = m i; preset = f1 i; initialise = f2 i; fec_request = f3 i; parallel_lanes = f4 i; c1 = u1 i; c0 = u2 i; cm1 = u3 i }
+    let u = updates c.updates d.updates (sym p.5 ∙ q.5) in
+    λ i. record { mark = m i; preset = f1 i; initialise = f2 i; fec_request = f3 i; parallel_lanes = f4 i; updates = u i }
 
 pub same_status : (s t : Status) → status_number s ≡ status_number t → s ≡ t
 same_status s t e =
     let p = status_parts s (status_number t) e in
     let q = status_parts t (status_number t) refl in
-    let flags = same_from flag (λ n. eqb n 1) flag_back in
-    let states = same_from state_number state_at state_back in
+    let flags = apart_from from_bool (λ n. eqb n 1) flag_back in
+    let states = same_coefficients state_number state_below (apart_from state_number state_at state_back) in
     let f1 = flags s.complete t.complete (sym p.0 ∙ q.0) in
     let f2 = flags s.negotiating t.negotiating (sym p.1 ∙ q.1) in
     let f3 = flags s.fec_capable t.fec_capable (sym p.2 ∙ q.2) in
     let f4 = flags s.fixed t.fixed (sym p.3 ∙ q.3) in
-    let u1 = states s.c1 t.c1 (sym p.4 ∙ q.4) in
-    let u2 = states s.c0 t.c0 (sym p.5 ∙ q.5) in
-    let u3 = states s.cm1 t.cm1 (sym p.6 ∙ q.6) in
-    λ i. record { complete = f1 i; negotiating = f2 i; fec_capable = f3 i; fixed = f4 i; c1 = u1 i; c0 = u2 i; cm1 = u3 i }
+    let u = states s.states t.states (sym p.4 ∙ q.4) in
+    λ i. record { complete = f1 i; negotiating = f2 i; fec_capable = f3 i; fixed = f4 i; states = u i }

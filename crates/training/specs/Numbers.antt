@@ -1,11 +1,12 @@
 -- The number of each mark, update and state, as the fields of a signal carry it. Nothing else repeats these numbers.
-use Rattle.std.specs.Prelude.{◌≡◌, ℕ}
+use Rattle.std.specs.Prelude.{◌≡◌, ℕ, ◌+◌, ◌*◌, ◌^◌, Result, MatchResult}
 use Rattle.training.specs.declared.records.Mark.{Mark}
 use Rattle.training.specs.declared.records.Mark.TheVariants.{Gfc16, Gfc32}
 use Rattle.training.specs.declared.records.Update.{Update}
 use Rattle.training.specs.declared.records.Update.TheVariants.{Hold, Increment, Decrement}
 use Rattle.training.specs.declared.records.State.{State}
 use Rattle.training.specs.declared.records.State.TheVariants.{Ready, Updated, Minimum, Maximum}
+use Rattle.training.specs.declared.records.Coefficients.{Coefficients}
 
 -- 1 and 2 are reserved
 abbrev pub mark_number : Mark → ℕ
@@ -24,12 +25,23 @@ state_number Updated = 1
 state_number Minimum = 2
 state_number Maximum = 3
 
--- n is the number of a case
+-- two bits for each coefficient
+abbrev pub coefficients_number : {X : Type 0} → (X → ℕ) → Coefficients X → ℕ
+coefficients_number number k = 2 ^ 4 * number k.c1 + 2 ^ 2 * number k.c0 + number k.cm1
+
+-- some value has the number n
+abbrev pub Named : {X : Type 0} → (X → ℕ) → ℕ → Type 0
+Named {X} number n = (x : X) × (number x ≡ n)
+
+-- the result is a value with the number n, or an error where no value has it
+abbrev pub Names : {X E : Type 0} → (X → ℕ) → ℕ → Result X E → Type 0
+Names number n r = MatchResult r (λ x. number x ≡ n) (λ e. Named number n → ⊥)
+
 abbrev pub IsMark : ℕ → Type 0
-IsMark n = (m : Mark) × (mark_number m ≡ n)
+IsMark n = Named mark_number n
 
 abbrev pub IsUpdate : ℕ → Type 0
-IsUpdate n = (u : Update) × (update_number u ≡ n)
+IsUpdate n = Named update_number n
 
 abbrev pub IsState : ℕ → Type 0
-IsState n = (s : State) × (state_number s ≡ n)
+IsState n = Named state_number n

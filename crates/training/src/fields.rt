@@ -1,14 +1,23 @@
 // Making control and status records from numbers, and the sixteen bits of each as a field carries them.
-ghost use Rattle.std.specs.Prelude.{◌≡◌, MatchOption, MatchResult};
-ghost use Rattle.training.specs.Numbers.{IsMark, IsUpdate, IsState};
+ghost use Rattle.std.specs.Prelude.{◌≡◌, ◌/◌, ◌%◌, ◌^◌, ◌<◌, MatchResult};
+ghost use Rattle.training.specs.Numbers.{IsMark, IsUpdate, IsState, Names};
 ghost use Rattle.training.specs.Making.{ControlFrom, StatusFrom};
-ghost use Rattle.training.specs.Fields.{control_number, status_number, IsControl, IsStatus};
+ghost use Rattle.std.specs.Int.{from_bool};
+ghost use Rattle.training.specs.Fields.{control_number, status_number};
 
-use crate::records::{Control, Mark, State, Status, Update};
-use crate::refusals::TrainingRefusal;
+use crate::records::{Coefficients, Control, Mark, Status};
+use crate::refusals::{TrainingRefusal, UnknownNumber};
+
+// Whether the bit at a place of a field is set.
+fn bit(field: u16, place: u32) -> bool
+    requires { place < 16 }
+    ensures { from_bool result ≡ field / 2 ^ place % 2 }
+{
+    (field >> place) & 1 == 1
+}
 
 impl Control {
-    // A control record from the numbers of its mark and updates.
+    // A control record from the numbers of its mark and updates: numbers, since they come from outside and may name nothing.
     pub fn new(
         mark: u8,
         preset: bool,
@@ -21,59 +30,19 @@ impl Control {
     ) -> Result<Control, TrainingRefusal>
         ensures { MatchResult result (ControlFrom mark preset initialise fec_request parallel_lanes c1 c0 cm1) (λ e. (e ≡ TrainingRefusal.Values) × (IsMark mark × IsUpdate c1 × IsUpdate c0 × IsUpdate cm1 → ⊥)) }
     {
-        let mark = Mark::from_number(mark)?;
-        let c1 = Update::from_number(c1)?;
-        let c0 = Update::from_number(c0)?;
-        let cm1 = Update::from_number(cm1)?;
         Ok(Control {
-            mark,
+            mark: Mark::try_from(mark)?,
             preset,
             initialise,
             fec_request,
             parallel_lanes,
-            c1,
-            c0,
-            cm1,
+            updates: Coefficients::from_numbers(c1, c0, cm1)?,
         })
-    }
-
-    // The control field.
-    pub fn field(self) -> u16
-        ensures { result ≡ control_number self }
-    {
-        ((self.mark.number() as u16) << 14)
-            + ((self.preset as u16) << 13)
-            + ((self.initialise as u16) << 12)
-            + ((self.fec_request as u16) << 11)
-            + ((self.parallel_lanes as u16) << 10)
-            + ((self.c1.number() as u16) << 4)
-            + ((self.c0.number() as u16) << 2)
-            + self.cm1.number() as u16
-    }
-
-    // The record whose field this is; none has a field with a reserved value or a reserved bit.
-    pub fn from_field(field: u16) -> Option<Control>
-        ensures { MatchOption result (IsControl field → ⊥) (λ c. control_number c ≡ field) }
-    {
-        if field / 64 % 16 != 0 {
-            return None;
-        }
-        let made = Control::new(
-            (field / 16384) as u8,
-            field / 8192 % 2 == 1,
-            field / 4096 % 2 == 1,
-            field / 2048 % 2 == 1,
-            field / 1024 % 2 == 1,
-            (field / 16 % 4) as u8,
-            (field / 4 % 4) as u8,
-            (field % 4) as u8,
-        );
-        made.ok()
     }
 }
 
 impl Status {
-    // A status record from the numbers of its states.
+    // A status record from the numbers of its states, for the same reason.
     pub fn new(
         complete: bool,
         negotiating: bool,
@@ -85,49 +54,80 @@ impl Status {
     ) -> Result<Status, TrainingRefusal>
         ensures { MatchResult result (StatusFrom complete negotiating fec_capable fixed c1 c0 cm1) (λ e. (e ≡ TrainingRefusal.Values) × (IsState c1 × IsState c0 × IsState cm1 → ⊥)) }
     {
-        let c1 = State::from_number(c1)?;
-        let c0 = State::from_number(c0)?;
-        let cm1 = State::from_number(cm1)?;
         Ok(Status {
             complete,
             negotiating,
             fec_capable,
             fixed,
-            c1,
-            c0,
-            cm1,
+            states: Coefficients::from_numbers(c1, c0, cm1)?,
         })
     }
+}
 
-    // The status field.
-    pub fn field(self) -> u16
-        ensures { result ≡ status_number self }
-    {
-        ((self.complete as u16) << 15)
-            + ((self.negotiating as u16) << 14)
-            + ((self.fec_capable as u16) << 13)
-            + ((self.fixed as u16) << 12)
-            + ((self.c1.number() as u16) << 4)
-            + ((self.c0.number() as u16) << 2)
-            + self.cm1.number() as u16
+// The control field.
+impl From<Control> for u16 {
+    ghost from_gives = { λ c n. n ≡ control_number c };
+
+    fn from(control: Control) -> u16 {
+        (u16::from(u8::from(control.mark)) << 14)
+            + (u16::from(control.preset) << 13)
+            + (u16::from(control.initialise) << 12)
+            + (u16::from(control.fec_request) << 11)
+            + (u16::from(control.parallel_lanes) << 10)
+            + u16::from(u8::from(control.updates))
     }
+}
 
-    // The record whose field this is; none has a field with a reserved bit.
-    pub fn from_field(field: u16) -> Option<Status>
-        ensures { MatchOption result (IsStatus field → ⊥) (λ s. status_number s ≡ field) }
-    {
-        if field / 64 % 64 != 0 {
-            return None;
+// The record whose field this is; none has a field with a reserved value or a reserved bit.
+impl TryFrom<u16> for Control {
+    type Error = UnknownNumber;
+
+    ghost try_from_gives = { Names control_number };
+
+    fn try_from(field: u16) -> Result<Control, UnknownNumber> {
+        if field / 64 % 16 != 0 {
+            return Err(UnknownNumber);
         }
-        let made = Status::new(
-            field / 32768 == 1,
-            field / 16384 % 2 == 1,
-            field / 8192 % 2 == 1,
-            field / 4096 % 2 == 1,
-            (field / 16 % 4) as u8,
-            (field / 4 % 4) as u8,
-            (field % 4) as u8,
-        );
-        made.ok()
+        Ok(Control {
+            mark: Mark::try_from((field / 16384) as u8)?,
+            preset: bit(field, 13),
+            initialise: bit(field, 12),
+            fec_request: bit(field, 11),
+            parallel_lanes: bit(field, 10),
+            updates: Coefficients::try_from((field % 64) as u8)?,
+        })
+    }
+}
+
+// The status field.
+impl From<Status> for u16 {
+    ghost from_gives = { λ s n. n ≡ status_number s };
+
+    fn from(status: Status) -> u16 {
+        (u16::from(status.complete) << 15)
+            + (u16::from(status.negotiating) << 14)
+            + (u16::from(status.fec_capable) << 13)
+            + (u16::from(status.fixed) << 12)
+            + u16::from(u8::from(status.states))
+    }
+}
+
+// The record whose field this is; none has a field with a reserved bit.
+impl TryFrom<u16> for Status {
+    type Error = UnknownNumber;
+
+    ghost try_from_gives = { Names status_number };
+
+    fn try_from(field: u16) -> Result<Status, UnknownNumber> {
+        if field / 64 % 64 != 0 {
+            return Err(UnknownNumber);
+        }
+        Ok(Status {
+            complete: bit(field, 15),
+            negotiating: bit(field, 14),
+            fec_capable: bit(field, 13),
+            fixed: bit(field, 12),
+            states: Coefficients::try_from((field % 64) as u8)?,
+        })
     }
 }

@@ -24,6 +24,15 @@ pub enum State {
     Maximum = 3,
 }
 
+// One value for each of a transmitter's three coefficients.
+#[derive(Clone, Copy, PartialEq, Eq, Debug, Drop)]
+pub struct Coefficients<T> {
+    pub c1: T,
+    pub c0: T,
+    pub cm1: T,
+}
+
+// What a port announces, and what it asks of the other port.
 #[derive(Clone, Copy, PartialEq, Eq, Debug, Drop)]
 pub struct Control {
     pub mark: Mark,
@@ -31,20 +40,17 @@ pub struct Control {
     pub initialise: bool,
     pub fec_request: bool,
     pub parallel_lanes: bool,
-    pub c1: Update,
-    pub c0: Update,
-    pub cm1: Update,
+    pub updates: Coefficients<Update>,
 }
 
+// How far a port's training is, and what became of each coefficient.
 #[derive(Clone, Copy, PartialEq, Eq, Debug, Drop)]
 pub struct Status {
     pub complete: bool,
     pub negotiating: bool,
     pub fec_capable: bool,
     pub fixed: bool,
-    pub c1: State,
-    pub c0: State,
-    pub cm1: State,
+    pub states: Coefficients<State>,
 }
 
 // What one signal says.

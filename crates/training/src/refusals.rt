@@ -1,10 +1,25 @@
 // Why a call on training signals did not do its work.
+ghost use Rattle.std.specs.Prelude.{◌≡◌};
 ghost use Rattle.training.specs.Refusals.{number_of, place_of};
+ghost use Rattle.training.specs.declared.refusals.TrainingRefusal.TheVariants.{Values};
 
 use numbered_refusal::Refusal;
 use std::error::Error;
 use std::fmt;
 
+// A number that no mark, update, state or record has.
+#[derive(Clone, Copy, PartialEq, Eq, Debug, Drop)]
+pub struct UnknownNumber;
+
+impl fmt::Display for UnknownNumber {
+    fn fmt<W: fmt::Write>(&self, f: &mut fmt::Formatter<W>) -> fmt::Result {
+        f.write_str("no mark, update, state or record has this number")
+    }
+}
+
+impl Error for UnknownNumber {}
+
+// Each refusal, after its number.
 #[derive(Clone, Copy, PartialEq, Eq, Debug, Drop)]
 pub enum TrainingRefusal {
     // 51
@@ -25,6 +40,15 @@ pub enum TrainingRefusal {
     Pattern { place: usize },
     // 59
     NothingFound { place: usize },
+}
+
+// What a call answers that was given such a number.
+impl From<UnknownNumber> for TrainingRefusal {
+    ghost from_gives = { λ _ r. r ≡ Values };
+
+    fn from(_: UnknownNumber) -> TrainingRefusal {
+        TrainingRefusal::Values
+    }
 }
 
 impl Refusal for TrainingRefusal {

@@ -5,17 +5,14 @@
 mod group;
 mod layers;
 mod message;
+mod outcome;
 mod ports;
 mod signals;
 
-fn run(rt: &HostRuntime) -> anyhow::Result<()> {
-    group::show(rt)?;
-    message::show(rt)?;
-    layers::show(rt)?;
-    ports::show(rt)?;
-    signals::show(rt)
-}
-
 fn main(rt: HostRuntime) -> anyhow::Result<()> {
-    run(&rt)
+    group::show(&rt)?;
+    message::show(&rt)?;
+    layers::show(&rt)?;
+    ports::show(&rt)?;
+    signals::show(&rt)
 }

@@ -7,10 +7,8 @@ use words::word::Word;
 // Eighty words: every fifth one a control word.
 pub(crate) fn eighty() -> anyhow::Result<[Word; 80]> {
     let mut words = [Word::Data(0x5555_aaaa_5555_aaaa); 80];
-    for (i, word) in words.iter_mut().enumerate() {
-        if i % 5 == 3 {
-            *word = Word::new(1, (i as u64) * 0x100 + 0x4b)?;
-        }
+    for (i, word) in words.iter_mut().enumerate().skip(3).step_by(5) {
+        *word = Word::new(1, (i as u64) * 0x100 + 0x4b)?;
     }
     Ok(words)
 }

@@ -1,5 +1,6 @@
 // Ports over the codes and layers: written, spoilt, read and refused, with the totals after each step.
 use crate::message::eighty;
+use crate::outcome::print_refused;
 use code::bare::Bare;
 use code::correction_off::CorrectionOff;
 use code::interface::Code;
@@ -8,12 +9,6 @@ use port::state::Port;
 use port::totals::Totals;
 use reed_solomon::codec::ReedSolomon;
 use words::word::Word;
-
-const ZEROS: Totals = Totals {
-    accepted: 0,
-    dropped: 0,
-    mended: 0,
-};
 
 fn print_totals<C: Code>(rt: &HostRuntime, port: &Port<C>) -> anyhow::Result<()> {
     let Totals {
@@ -27,10 +22,8 @@ fn print_totals<C: Code>(rt: &HostRuntime, port: &Port<C>) -> anyhow::Result<()>
 
 // Flips one bit in each of the first symbols.
 fn spoil(line: &mut [u16], symbols: usize) {
-    for (i, symbol) in line.iter_mut().enumerate() {
-        if i < symbols {
-            *symbol ^= 0x100;
-        }
+    for symbol in line.iter_mut().take(symbols) {
+        *symbol ^= 0x100;
     }
 }
 
@@ -51,7 +44,7 @@ fn carry<C: Code>(
             let same = words == sent;
             println!(rt; "  read, and the words are the same: {same}")?;
         }
-        Err(refusal) => println!(rt; "  refused: {refusal}")?,
+        Err(refusal) => print_refused(rt, refusal)?,
     }
     print_totals(rt, port)
 }
@@ -64,7 +57,7 @@ fn walk<C: Code + Drop>(
 ) -> anyhow::Result<()> {
     let (n, t) = (code.n(), code.t());
     println!(rt; "A port over {name}, n {n}, t {t}, opened on zeros:")?;
-    let mut port = Port::open(code, ZEROS)?;
+    let mut port = Port::open(code, Totals::default())?;
     print_totals(rt, &port)?;
     for wrong in [0usize, 7, 8] {
         carry(rt, &mut port, line, wrong)?;
@@ -73,8 +66,8 @@ fn walk<C: Code + Drop>(
 }
 
 // A number that is no symbol changes nothing at all.
-fn refused(rt: &HostRuntime) -> anyhow::Result<()> {
-    let mut port = Port::open(Scrambled { inner: Bare }, ZEROS)?;
+fn show_no_symbol(rt: &HostRuntime) -> anyhow::Result<()> {
+    let mut port = Port::open(Scrambled { inner: Bare }, Totals::default())?;
     let mut words = eighty()?;
     let mut line = [0u16; 514];
     port.write(&words, &mut line)?;
@@ -82,7 +75,7 @@ fn refused(rt: &HostRuntime) -> anyhow::Result<()> {
     println!(rt; "Symbol 5 of a line set to 2000, and the line read:")?;
     match port.read(&mut line, &mut words) {
         Ok(()) => println!(rt; "  read")?,
-        Err(refusal) => println!(rt; "  refused: {refusal}")?,
+        Err(refusal) => print_refused(rt, refusal)?,
     }
     print_totals(rt, &port)
 }
@@ -122,7 +115,7 @@ pub fn show(rt: &HostRuntime) -> anyhow::Result<()> {
     )?;
     let mut short = [0u16; 514];
     walk(rt, "the bare code", Bare, &mut short)?;
-    refused(rt)?;
+    show_no_symbol(rt)?;
     println!(rt)?;
     Ok(())
 }

@@ -1,4 +1,5 @@
 // Two training signals in a recording with noise before and between them: found, read and surveyed.
+use crate::outcome::print_refused;
 use recording::counts::Survey;
 use recording::finding::find;
 use recording::surveying::survey;
@@ -12,23 +13,25 @@ fn show_next(rt: &HostRuntime, recording: &[u8], from: usize) -> anyhow::Result<
     println!(rt; "From TUI {from} on, the first marker stands at {place}")?;
     match read(recording, place) {
         Ok(training) => {
-            let (mark, c0, seed) = (training.control.mark, training.control.c0, training.seed);
+            let (mark, c0, seed) = (
+                training.control.mark,
+                training.control.updates.c0,
+                training.seed,
+            );
             println!(rt; "  read: mark {mark:?}, update of C0 {c0:?}, seed {seed}")?;
         }
-        Err(refusal) => println!(rt; "  refused: {refusal}")?,
+        Err(refusal) => print_refused(rt, refusal)?,
     }
     Ok(place)
 }
 
 // Puts two signals into the noise, at bytes 20 and 600.
-fn fill(recording: &mut [u8]) -> anyhow::Result<()> {
+fn fill(recording: &mut [u8; 1200]) -> anyhow::Result<()> {
     let status = Status::new(false, true, true, false, 0, 1, 0)?;
     let first = Control::new(3, false, false, true, false, 0, 1, 0)?;
     let second = Control::new(0, false, false, false, false, 0, 2, 0)?;
-    if recording.len() >= 1148 {
-        write(first, status, 1, &mut recording[20..568])?;
-        write(second, status, 2047, &mut recording[600..1148])?;
-    }
+    write(first, status, 1, &mut recording[20..568])?;
+    write(second, status, 2047, &mut recording[600..1148])?;
     Ok(())
 }
 

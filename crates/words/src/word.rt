@@ -41,6 +41,7 @@ pub fn is_listed(type_byte: u8) -> bool
 const HIGHS: [u8; 16] = [0, 0xE, 0xD, 3, 0xB, 5, 6, 8, 7, 9, 0xA, 4, 0xC, 2, 1, 0xF];
 
 // The high nibble of the type whose low nibble is that of `low`; 0 where no type has it.
+// No Option: callers have it as a function that always answers, and the one low nibble with no type is 0.
 pub fn high_nibble(low: u8) -> u8
     ensures { result ≡ high (low % 16) }
 {
@@ -60,6 +61,7 @@ impl Word {
         }
     }
 
+    // The header number: a number here as in `new`, where one comes from outside and may be no header.
     pub fn header(&self) -> u8
         ensures { result ≡ header_of (raw self.now) }
     {

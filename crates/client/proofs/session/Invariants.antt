@@ -4,6 +4,6 @@ use Rattle.port.specs.Runs.{Event}
 use Rattle.client.specs.Sessions.{Leads}
 use Rattle.client.proofs.session.Given as goal
 
-abbrev pub invariant-loop-i : goal.invariant-loop-i
-invariant-loop-i g l =
-    (hs : List Event) × (length hs ≡ l._i) × (l.port.code ≡ l.initial.port.code) × Leads (g.C.Code.model l.initial.port.code) l.initial.port.totals l.port.totals hs
+abbrev pub invariant-loop : goal.invariant-loop
+invariant-loop g l =
+    (hs : List Event) × (length hs ≡ l.counter) × (l.port.code ≡ l.initial.port.code) × Leads (g.C.Code.model l.initial.port.code) l.initial.port.totals l.port.totals hs

@@ -1,22 +1,14 @@
--- What is left to show of `alpha_power`.
-use Rattle.std.proofs.Common.{ℕ, ◌<◌, sym, ◌∙◌, subst}
+-- The table has the powers below 1,023, and the exponents count modulo 1,023.
+use Rattle.std.proofs.Common.{◌≡◌, ℕ, ◌<◌, ◌%◌, sym, ◌∙◌, subst, arith}
+use Rattle.field.specs.Field.{pow}
 use Rattle.field.proofs.Powers.{alpha_laws, pow_lt}
-use Rattle.field.proofs.Logs.{pow_mod}
+use Rattle.field.proofs.Logs.{powers_at, pow_mod}
 use Rattle.field.proofs.alpha_power.Goals as goal
 
-pub returns-then-i-lt-ORDER : goal.returns-then-i-lt-ORDER
-returns-then-i-lt-ORDER c =
-    record {
-      value = c.power_below.ensures;
-      small = subst (λ (x : ℕ). x < 1024) (sym c.power_below.ensures) (pow_lt 2 c.args.i);
-      laws = alpha_laws;
-    }
+small : (r i : ℕ) → r ≡ pow 2 i → r < 1024
+small r i e = subst (λ (x : ℕ). x < 1024) (sym e) (pow_lt 2 i)
 
-pub returns-else-i-lt-ORDER : goal.returns-else-i-lt-ORDER
-returns-else-i-lt-ORDER c =
-    let value = c.power_below-else-i-lt-ORDER.ensures ∙ pow_mod c.args.i in
-    record {
-      value = value;
-      small = subst (λ (x : ℕ). x < 1024) (sym value) (pow_lt 2 c.args.i);
-      laws = alpha_laws;
-    }
+pub returns : goal.returns
+returns c =
+    let i = c.args.i in
+    record { value = powers_at (i % 1023) (omega arith) ∙ pow_mod i; small = small _ i (powers_at (i % 1023) (omega arith) ∙ pow_mod i); laws = alpha_laws }

@@ -1,13 +1,13 @@
-use Rattle.std.proofs.Common.{◌≡◌, ℕ, ◌+◌, ◌^◌, ◌<◌, Bool, List, [], ◌∷◌, length, get_or, take, drop, set, sym, ap, ◌∙◌, arith, length-set}
+use Rattle.std.proofs.Common.{◌≡◌, ℕ, ◌+◌, ◌^◌, ◌<◌, List, [], ◌∷◌, length, get_or, take, drop, set, sym, ap, ◌∙◌, arith, length-set}
 use Rattle.std.proofs.lemmas.List.{drop_more, take_more, take_all, drop_all, map-append, length-map}
 use Rattle.words.specs.Raw.{Raw, AllValid}
 use Rattle.blocks.specs.Numbers.{block}
 use Rattle.words.specs.Words.{raw, raws}
 use Rattle.words.specs.declared.word.Word.{Word}
 use Rattle.blocks.specs.Packed.{onto, packed}
-use Rattle.blocks.specs.Filling.{above}
+use Rattle.blocks.specs.Filling.{with_rest}
+use Rattle.blocks.specs.declared.writing.Writer.{Writer}
 use Rattle.blocks.proofs.Packing.{fill, filled, valid_push}
-use Rattle.blocks.proofs.Opens.{weight_le}
 use Rattle.blocks.proofs.Bounds.{block_lt}
 use Rattle.blocks.proofs.writing.filled.Goals as goal
 
@@ -17,42 +17,39 @@ valid_more ws j w h v u = rw (take_more ws j w h, map-append raw (take j ws) (ge
 rest_more : (ws : List Word) (j : ℕ) (w : Word) → j < length ws → raws (drop j ws) ≡ raw (get_or ws j w) ∷ raws (drop (j + 1) ws)
 rest_more ws j w h = ap raws (drop_more ws j w h)
 
-pub overflow_add-acc : goal.overflow_add-acc
-overflow_add-acc c =
-    let f = c.placed-bits.ensures.fits c.loop-j.acc c.loop-j.invariant.1 in
-    let b = weight_le c.placed-bits.result.1 in
-    omega arith
-
 pub loop-j-preserved : goal.loop-j-preserved
 loop-j-preserved c =
-    let lt : c.loop-j.j < length c.args.words.now = omega arith in
+    let inv = c.loop-j.invariant in
+    let ws = c.args.words.now in
+    let lt : c.loop-j.j < length ws = omega arith in
     let w = c.index-words-j.result in
-    let f = c.placed-bits.ensures.fits c.loop-j.acc c.loop-j.invariant.1 in
-    let e = ap (λ (r : List Raw). onto 64 (take c.loop-j.j c.loop-j.limbs) (c.loop-j.acc + above c.loop-j.cutting r)) (sym (rest_more c.args.words.now c.loop-j.j w lt)) ∙ c.loop-j.invariant.2 in (
-      rw length-set c.loop-j.invariant.0,
-      omega arith,
-      fill c.loop-j.limbs c.loop-j.j c.loop-j.acc c.placed-bits.result.0 (block (raws c.args.words.now)) c.loop-j.cutting c.placed-bits.result.1 (raw (get_or c.args.words.now c.loop-j.j w)) (raws (drop (c.loop-j.j + 1) c.args.words.now)) (omega arith) e c.placed-bits.ensures,
-      valid_more c.args.words.now c.loop-j.j w lt c.loop-j.invariant.3 (c.placed-bits.ensures.valid, tt),
-    )
+    let e = ap (λ (r : List Raw). onto 64 (take c.loop-j.j c.loop-j.limbs) (with_rest c.loop-j.writer r)) (sym (rest_more ws c.loop-j.j w lt)) ∙ inv.holds in
+    record {
+      long = rw length-set inv.long;
+      holds = fill c.loop-j.limbs c.loop-j.j c.put.result (block (raws ws)) c.loop-j.writer c.put.new.self (raw (get_or ws c.loop-j.j w)) (raws (drop (c.loop-j.j + 1) ws)) (omega arith) e c.put.ensures;
+      valid = valid_more ws c.loop-j.j w lt inv.valid (c.put.ensures.valid, tt);
+    }
 
 record Done (ws : List Word) (limbs : List ℕ) : Type 0 where
   meaning : packed 64 limbs ≡ block (raws ws)
   valid : AllValid (raws ws)
   narrow : packed 64 limbs < 2 ^ 257
 
-done : (ws : List Word) (limbs : List ℕ) (j acc : ℕ) (cut : Bool) → j ≡ 4 → length ws ≡ 4 → length limbs ≡ 5
-    → onto 64 (take j limbs) (acc + above cut (raws (drop j ws))) ≡ block (raws ws) → AllValid (raws (take j ws)) → Done ws (set limbs 4 acc)
-done ws limbs j acc cut j4 n n5 e v =
+done : (ws : List Word) (limbs : List ℕ) (j : ℕ) (writer : Writer) → j ≡ 4 → length ws ≡ 4 → length limbs ≡ 5
+    → onto 64 (take j limbs) (with_rest writer (raws (drop j ws))) ≡ block (raws ws) → AllValid (raws (take j ws)) → Done ws (set limbs 4 writer.acc)
+done ws limbs j writer j4 n n5 e v =
     let a = rw (take_all 4 ws (omega arith)) at (rw j4 at v) in
-    let m = filled limbs acc (block (raws ws)) cut n5 (rw (drop_all 4 ws (omega arith)) at (rw j4 at e)) in
+    let m = filled limbs writer (block (raws ws)) n5 (rw (drop_all 4 ws (omega arith)) at (rw j4 at e)) in
     let n' : length (raws ws) ≡ 4 = length-map ws raw ∙ n in
     record { meaning = m; valid = a; narrow = rw m (block_lt (raws ws) n' a) }
 
 pub invariant_of-result : goal.invariant_of-result
 invariant_of-result c =
-    record { narrow = (done c.args.words.now c.loop-j.limbs c.loop-j.j c.loop-j.acc c.loop-j.cutting (omega arith) (omega arith) c.loop-j.invariant.0 c.loop-j.invariant.2 c.loop-j.invariant.3).narrow }
+    let inv = c.loop-j.invariant in
+    record { narrow = (done c.args.words.now c.loop-j.limbs c.loop-j.j c.loop-j.writer (omega arith) (omega arith) inv.long inv.holds inv.valid).narrow }
 
 pub returns : goal.returns
 returns c =
-    let d = done c.args.words.now c.loop-j.limbs c.loop-j.j c.loop-j.acc c.loop-j.cutting (omega arith) (omega arith) c.loop-j.invariant.0 c.loop-j.invariant.2 c.loop-j.invariant.3 in
+    let inv = c.loop-j.invariant in
+    let d = done c.args.words.now c.loop-j.limbs c.loop-j.j c.loop-j.writer (omega arith) (omega arith) inv.long inv.holds inv.valid in
     record { value = d.meaning; valid = d.valid }

@@ -1,19 +1,21 @@
--- Each turn counts one place, and in the end none is left.
-use Rattle.std.proofs.Common.{arith, rules}
-use Rattle.std.proofs.lemmas.Bool.Decides.{nat_tests}
-use Rattle.code.specs.Metric.{distance_laws, distance_more, distance_all}
+-- The pairs that differ are counted, and their number is the distance.
+use Rattle.std.proofs.Common.{◌∙◌, rules, tests}
+use Rattle.std.proofs.lemmas.Iterator.{YieldsList-from_zip, YieldsList-from_slice}
+use Rattle.std.proofs.lemmas.Iterator.Consumers.{YieldsList-at, YieldsList-from_filter, count_from_yields_List}
+use Rattle.code.specs.Metric.{distance_laws, distance_count}
 use Rattle.code.proofs.distance.distance.Goals as goal
-use Rattle.code.proofs.distance.distance.Goals.{then-x-b, else-x-b}
 
-pub returns-then-a-b : goal.returns-then-a-b
-returns-then-a-b c = record { answer = search rules; laws = distance_laws }
+pub returns-then-a-b-clause-laws : goal.returns-then-a-b-clause-laws
+returns-then-a-b-clause-laws c = distance_laws
 
-pub loop-i-preserved : goal.loop-i-preserved
-loop-i-preserved c =
-    let m = distance_more c.args.a.now c.args.b.now c.loop-i.i (omega arith) (omega arith) in
-    elim c.if-x-b.branch [ then-x-b w ↦ (grind (arith, nat_tests), omega (arith, w.differing-is)) | else-x-b w ↦ (grind (arith, nat_tests), omega (arith, w.differing-is)) ]
+pub returns-clause-laws : goal.returns-clause-laws
+returns-clause-laws c = distance_laws
 
-pub returns : goal.returns
-returns c =
-    let a = distance_all c.args.a.now c.args.b.now c.loop-i.i (omega arith) in
-    record { answer = (omega arith, omega arith); laws = distance_laws }
+pub returns-clause-answer : goal.returns-clause-answer
+returns-clause-answer c = (
+  search rules,
+  count_from_yields_List c.filter.result _ c.count.ensures.ran
+      (YieldsList-from_filter _ _ (YieldsList-at c.filter.ensures.source (YieldsList-from_zip (YieldsList-from_slice c.args.a.now cc) (YieldsList-from_slice c.args.b.now cc)))
+      c.filter.ensures.closure (λ x r q k. search (rules, tests)))
+      ∙ distance_count c.args.a.now c.args.b.now,
+)

@@ -1,7 +1,8 @@
--- Every place has its symbol of the key added.
-use Rattle.std.proofs.Common.{arith}
-use Rattle.code.specs.Scrambling.{with_key_by_places}
+-- The table passes the test of the recurrence, so what was added is the key.
+use Rattle.code.specs.Sequence.{history}
+use Rattle.code.proofs.Table.{key_added}
 use Rattle.code.proofs.sequence.add_key.Goals as goal
 
 pub returns : goal.returns
-returns c = with_key_by_places c.args.line.now c.loop-i.line (omega arith) (λ i h. c.loop-i.invariant.0 i (omega arith))
+unfolding history
+returns c = key_added _ _ _ tt c.requires c.add.ensures

@@ -1,14 +1,21 @@
-use Rattle.std.proofs.Common.{◌≡◌, ◌+◌, ◌-◌, ◌*◌, ◌^◌, take, drop}
-use Rattle.blocks.specs.Packed.{onto}
+use Rattle.std.proofs.Common.{◌≡◌, ◌+◌, ◌*◌, ◌/◌, length, take}
 use Rattle.words.specs.Words.{raws}
 use Rattle.words.specs.Raw.{AllValid}
+use Rattle.symbols.specs.Symbols.{Symbols}
+use Rattle.messages.specs.Writers.{count, under}
 use Rattle.messages.specs.Numbers.{message}
-use Rattle.messages.specs.Pens.{Ready}
 use Rattle.messages.proofs.writing.write.Given as goal
 
-abbrev pub invariant-loop-b : goal.invariant-loop-b
-invariant-loop-b l =
-    Ready l.pen.acc l.pen.fill l.pen.at l.out
-    × (10 * l.pen.at + l.pen.fill ≡ 257 * l.b)
-    × (onto 10 (take l.pen.at l.out) (l.pen.acc + 2 ^ l.pen.fill * message (20 - l.b) (raws (drop (4 * l.b) l.words))) ≡ message 20 (raws l.words))
-    × AllValid (raws (take (4 * l.b) l.words))
+abbrev pub invariant-loop-four : goal.invariant-loop-four
+invariant-loop-four l = record {
+  same : l.writer.out.ghost_name ≡ l.initial.writer.out.ghost_name;
+  long : length l.writer.out.now ≡ 514;
+  whole : 4 * (length l.rest / 4) ≡ length l.rest;
+  written : count l.writer + 257 * (length l.rest / 4) ≡ 5140;
+  small : Symbols (take l.writer.at l.writer.out.now);
+  means : under l.writer (message (length l.rest / 4) (raws l.rest)) ≡ message 20 (raws l.words);
+  valid : AllValid (raws l.rest) → AllValid (raws l.words);
+}
+
+abbrev pub decreases-loop-four : goal.decreases-loop-four
+decreases-loop-four l = length l.rest

@@ -1,5 +1,5 @@
 -- What is left to show of `divide`.
-use Rattle.std.proofs.Common.{◌≡◌, ℕ, ◌+◌, ◌<◌, List, get_or, drop, replicate, sym, ap, ◌∙◌, subst, lit<}
+use Rattle.std.proofs.Common.{◌≡◌, ℕ, ◌+◌, ◌<◌, List, get_or, drop, replicate, sym, refl, ap, ◌∙◌, subst, lit<}
 use Rattle.std.proofs.lemmas.List.{at_drop_more, at_drop_all}
 use Rattle.symbols.specs.Symbols.{Symbols}
 use Rattle.reed_solomon_algebra.specs.Division.{below_first, remainder, parity}
@@ -16,9 +16,7 @@ zero_symbols tail e k h =
     subst (λ (x : ℕ). x < 1024) (sym (ap (λ (l : List ℕ). get_or l k 0) e ∙ zeros_at 14 k)) (lit< tt)
 
 pub loop-s-init : goal.loop-s-init
-loop-s-init c =
-    let zeros = c.fill.ensures.after (λ y e. e) ∙ ap (λ (n : ℕ). replicate n 0) c.requires.sized in
-    (from_zeros c.fill.new.self c.args.message.now zeros, zero_symbols c.fill.new.self zeros)
+loop-s-init c = (from_zeros (replicate 14 0) c.args.message.now refl, zero_symbols (replicate 14 0) refl)
 
 pub loop-s-preserved : goal.loop-s-preserved
 loop-s-preserved c =
@@ -28,9 +26,9 @@ loop-s-preserved c =
     let s = get_or message c.loop-s.s-index 0 in
     let rest = drop (c.loop-s.s-index + 1) message in
     let more = at_drop_more (remainder g tail) message c.loop-s.s-index 0 c.loop-s-test.true in (
-      ap (λ (r : List ℕ). remainder g r rest) c.feed.ensures
+      ap (λ (r : List ℕ). remainder g r rest) c.step.ensures
           ∙ sym (remainder_more g tail s rest) ∙ sym more ∙ c.loop-s.invariant.0,
-      subst Symbols (sym c.feed.ensures) (step_symbols tail s c.loop-s.invariant.1),
+      subst Symbols (sym c.step.ensures) (step_symbols tail s c.loop-s.invariant.1),
     )
 
 pub returns : goal.returns

@@ -1,15 +1,12 @@
 -- What is left to show of `dot_with`.
-use Rattle.std.proofs.Common.{refl, arith}
+use Rattle.std.proofs.lemmas.Slice.Zip.{Zip-more, either_empty_from_Zip}
 use Rattle.reed_solomon_decoder.proofs.Turns.{dot_turn, dot_end}
 use Rattle.reed_solomon_decoder.proofs.elimination.dot_with.Goals as goal
 
-pub loop-k-init : goal.loop-k-init
-loop-k-init c = refl
-
-pub loop-k-preserved : goal.loop-k-preserved
-loop-k-preserved c =
-    let e = dot_turn c.args.p.now c.args.s.now c.loop-k.k c.loop-k.sum _ (omega arith) (omega arith) c.loop-k.invariant in
-    cc
+pub loop-c-preserved : goal.loop-c-preserved
+loop-c-preserved c =
+    let more = Zip-more c.loop-c.c-iterator c.next.new.self c.next.result (c.in-Some.c, c.in-Some.b) c.in-Some.is c.next.ensures.steps in
+    dot_turn _ _ _ _ _ _ _ _ _ more.0 more.1 c.product-sum.ensures.value c.loop-c.invariant
 
 pub returns : goal.returns
-returns c = dot_end c.args.p.now c.args.s.now c.loop-k.k c.loop-k.sum _ (omega arith) c.loop-k.invariant
+returns c = dot_end _ _ _ _ (either_empty_from_Zip c.loop-c.c-iterator c.next.new.self c.next.result c.in-None.is c.next.ensures.steps) c.loop-c.invariant

@@ -1,23 +1,17 @@
 -- What is left to show of `locator`.
-use Rattle.std.proofs.Common.{◌≡◌, ℕ, ◌+◌, ◌-◌, ◌≢◌, List, [], get_or, set, sym, ◌∙◌, subst, arith, length-set, get_or-set_other, get_or-set_same, below_more}
-use Rattle.reed_solomon_decoder.proofs.Rows.{IsUnit, kernel_start, kernel_found}
+use Rattle.std.proofs.Common.{◌≡◌, ℕ, ◌+◌, ◌-◌, ◌<◌, ◌≢◌, List, [], length, get_or, subst, arith, rules}
+use Rattle.reed_solomon_decoder.proofs.Rows.{kernel_start, kernel_found}
+use Rattle.reed_solomon_decoder.proofs.Filled.{filled_from}
 use Rattle.reed_solomon_decoder.proofs.elimination.locator.Goals as goal
 use Rattle.reed_solomon_decoder.specs.Kernel.{Kernel}
 
-pub loop-i-preserved : goal.loop-i-preserved
-loop-i-preserved c =
-    let now : List (List ℕ) = c.loop-i.rows in
-    let i = c.loop-i.i in
-    let row : IsUnit 8 i c.unit.result = record { wide = c.unit.ensures.wide; here = c.unit.ensures.here; other = c.unit.ensures.other } in (
-      below_more (λ (k : ℕ). IsUnit 8 k (get_or (set now i c.unit.result) k [])) i
-          (λ k h. let ne : k ≢ i = omega arith in
-          subst (IsUnit 8 k) (sym (get_or-set_other now i k c.unit.result [] ne)) (c.loop-i.invariant.0 k h))
-          (subst (IsUnit 8 i) (sym (get_or-set_same now i c.unit.result [] (omega arith))) row),
-      length-set now i c.unit.result ∙ c.loop-i.invariant.1,
-    )
-
 pub loop-j-init : goal.loop-j-init
-loop-j-init c = kernel_start 8 8 c.args.s.now c.loop-i.rows (λ i h. c.loop-i.invariant.0 i (omega arith))
+loop-j-init c =
+    kernel_start 8 8 c.args.s.now c.from_fn-rows.result
+    (λ i h.
+    let row = filled_from _ _ (λ (k : ℕ) (row : List ℕ). (length row ≡ 8) × (k < 8 → get_or row k 0 ≡ 1) × ((m : ℕ) → m ≢ k → get_or row m 0 ≡ 0)) (λ k row q e. search rules)
+    c.from_fn-rows.result 0 8 i [] c.from_fn-rows.ensures.items.each (omega arith) (omega arith) in
+    record { wide = row.0; here = row.1 h; other = row.2 })
 
 pub loop-j-preserved : goal.loop-j-preserved
 loop-j-preserved c =

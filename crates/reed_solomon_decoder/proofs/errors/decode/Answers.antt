@@ -1,88 +1,54 @@
 -- What is left to show of `decode`.
-use Rattle.std.proofs.Common.{◌≡◌, ℕ, ◌-◌, ◌≤◌, Bool, true, cond, ◌≢◌, List, get_or, take, set, sym, refl, ◌∙◌, subst, not-suc-le-zero, arith, lit≤, length-set, get_or-set_other, get_or-set_same, below_more}
-use Rattle.reed_solomon_algebra.specs.Terms.{terms}
-use Rattle.reed_solomon_decoder.specs.Errors.{Agrees, Explains}
-use Rattle.reed_solomon_decoder.proofs.Turns.{elements_set, elements_zeros}
+use Rattle.std.proofs.Common.{◌≡◌, ℕ, false, IsTrue, List, length, sym, ap, ◌∙◌, subst, arith, rules, lit≤}
+use Rattle.std.proofs.lemmas.List.{length-map}
+use Rattle.reed_solomon_algebra.specs.Terms.{Differ, terms}
+use Rattle.reed_solomon_decoder.specs.Errors.{Explains, SumsFrom, located, roots_below}
+use Rattle.reed_solomon_decoder.specs.Listed.{indices, places, values, listed}
+use Rattle.reed_solomon_decoder.specs.declared.line.Place.{Place}
+use Rattle.reed_solomon_decoder.specs.declared.errors.Error.{Error}
+use Rattle.reed_solomon_decoder.proofs.Places.{roots_differ}
 use Rattle.reed_solomon_decoder.proofs.Composition.{passes, must_pass}
-use Rattle.reed_solomon_decoder.proofs.Searching.{cut_length, cut_within, cut}
+use Rattle.reed_solomon_decoder.proofs.Listed.{listed_terms, located_long}
 use Rattle.reed_solomon_decoder.proofs.errors.decode.Goals as goal
 
-pub locators_of-all-requires : goal.locators_of-all-requires
-locators_of-all-requires c =
-    let found = c.search-found.ensures in
-    record {
-      few = omega (arith, cut_length c.search-found.result.count 7 c.search-found.result.places found.few found.wide, found.few);
-      within = cut_within c.search-found.result.count 7 528 c.search-found.result.places found.few found.wide found.within;
-    }
+pub errors_at-errors-requires-clause-differ : goal.errors_at-errors-requires-clause-differ
+errors_at-errors-requires-clause-differ c =
+    subst Differ (sym (ap (λ (ps : List Place). located 528 (indices ps)) c.as_slice.ensures.value ∙ c.search-places.ensures)) (roots_differ c.locator.result 528 (lit≤ tt))
 
-pub loop-i-init : goal.loop-i-init
-loop-i-init c = (
-  (λ k h. absurd (not-suc-le-zero h)),
-  elements_zeros 7,
-  refl,
-  (
-    c.locator-u.result,
-    c.locator-u.ensures,
-    cut c.search-found.result.count 7 528 c.search-found.result.places c.locators_of-all.result c.locator-u.result (lit≤ tt)
-        c.search-found.ensures.few c.search-found.ensures.wide c.locators_of-all.ensures.wide
-        c.search-found.ensures.found c.locators_of-all.ensures.located,
-  ),
-)
+-- what `errors_at` lists are its values at the roots found
+module _ (es : List Error) (ps all : List Place) (u : List ℕ) (at_all : places es ≡ ps) (same : ps ≡ all) (found : located 528 (indices all) ≡ roots_below u 528) where
+  are : located 528 (indices ps) ≡ roots_below u 528
+  are = ap (λ (qs : List Place). located 528 (indices qs)) same ∙ found
 
-pub value_of-requires : goal.value_of-requires
-value_of-requires c =
-    let found = c.loop-i.invariant.3.2 in
-    record {
-      fits = (omega (arith, found.long), omega (arith, found.long, c.search-found.ensures.few));
-      symbols = found.elements;
-      differ = found.differ;
-    }
+  as_terms : listed es ≡ terms (values es) (located 528 (indices ps))
+  as_terms = listed_terms es ∙ ap (λ (qs : List Place). terms (values es) (located 528 (indices qs))) at_all
 
-pub loop-i-preserved : goal.loop-i-preserved
-loop-i-preserved c =
-    let xs : List ℕ = take (c.search-found.result.count - 0) c.locators_of-all.result in
-    let s : List ℕ = c.args.s.now in
-    let values : List ℕ = c.loop-i.values in
-    let i : ℕ = c.loop-i.i in
-    let v : ℕ = c.value_of.result in
-    let few : c.search-found.result.count ≤ 7 = c.search-found.ensures.few in (
-      below_more (λ (k : ℕ). Agrees s xs (get_or xs k 0) (get_or (set values i v) k 0)) i
-          (λ k h. let ne : k ≢ i = omega arith in
-          subst (Agrees s xs (get_or xs k 0)) (sym (get_or-set_other values i k v 0 ne)) (c.loop-i.invariant.0 k h))
-          (subst (Agrees s xs (get_or xs i 0)) (sym (get_or-set_same values i v 0 (omega arith))) c.value_of.ensures.value),
-      elements_set values i v c.loop-i.invariant.1 c.value_of.ensures.small,
-      length-set values i v ∙ c.loop-i.invariant.2,
-      c.loop-i.invariant.3,
-    )
-
-pub explained-requires : goal.explained-requires
-explained-requires c =
-    record { fits = omega (arith, c.loop-i.invariant.3.2.long, c.search-found.ensures.few); symbols = c.loop-i.invariant.1 }
+  long : length (located 528 (indices ps)) ≡ length (values es)
+  long = located_long ps ∙ sym (ap length at_all) ∙ length-map es (λ (e : Error). e.place) ∙ sym (length-map es (λ (e : Error). e.value))
 
 pub returns-then-explained : goal.returns-then-explained
 returns-then-explained c =
     let s : List ℕ = c.args.s.now in
-    let xs : List ℕ = take (c.search-found.result.count - 0) c.locators_of-all.result in
-    let values : List ℕ = c.loop-i.values in
-    let found = c.loop-i.invariant.3.2 in
-    record {
-      few = c.search-found.ensures.few;
-      places_wide = c.search-found.ensures.wide;
-      values_wide = c.loop-i.invariant.2;
-      within = c.search-found.ensures.within;
-      explains =
-          subst (λ (l : List ℕ). Explains 7 528 s (terms values l)) found.places
-          (passes 7 528 s c.loop-i.invariant.3.0 values (lit≤ tt) c.told-s c.loop-i.invariant.3.1
-          xs found.roots c.loop-i.invariant.1 (c.explained.ensures.yes c.if-explained.true));
-    }
+    let es : List Error = c.errors_at-errors.result.items in
+    let ps : List Place = c.as_slice.result.now in
+    let at_roots = are es ps c.search-places.result.items c.locator.result c.errors_at-errors.ensures.places c.as_slice.ensures.value c.search-places.ensures in
+    let terms_are = as_terms es ps c.search-places.result.items c.locator.result c.errors_at-errors.ensures.places c.as_slice.ensures.value c.search-places.ensures in
+    subst (Explains 7 528 s) (sym terms_are)
+    (passes 7 528 s c.locator.result (values es) (lit≤ tt) c.told-s c.locator.ensures
+    (located 528 (indices ps)) at_roots c.errors_at-errors.ensures.small
+    (subst (SumsFrom 0 s) (ap listed c.as_slice-2.ensures.value ∙ terms_are) (c.if-explained.ensures.0 (search rules))))
 
 pub returns-else-explained : goal.returns-else-explained
 returns-else-explained c e x =
-    let xs : List ℕ = take (c.search-found.result.count - 0) c.locators_of-all.result in
-    let found = c.loop-i.invariant.3.2 in
-    let yes : c.explained.result ≡ true =
-    c.explained.ensures.no
-    (must_pass 7 528 c.args.s.now c.loop-i.invariant.3.0 c.loop-i.values (lit≤ tt) c.told-s c.loop-i.invariant.3.1
-    xs found.roots (omega (arith, found.long, c.search-found.ensures.few, c.loop-i.invariant.2))
-    (λ i h. c.loop-i.invariant.0 i (omega (arith, found.long))) e x) in
-    subst (λ (b : Bool). cond b ⊥ (Unit {0})) (sym c.if-explained.false ∙ yes) tt
+    let s : List ℕ = c.args.s.now in
+    let es : List Error = c.errors_at-errors.result.items in
+    let ps : List Place = c.as_slice.result.now in
+    let at_roots = are es ps c.search-places.result.items c.locator.result c.errors_at-errors.ensures.places c.as_slice.ensures.value c.search-places.ensures in
+    let terms_are = as_terms es ps c.search-places.result.items c.locator.result c.errors_at-errors.ensures.places c.as_slice.ensures.value c.search-places.ensures in
+    let wide = long es ps c.search-places.result.items c.locator.result c.errors_at-errors.ensures.places c.as_slice.ensures.value c.search-places.ensures in
+    let sums : SumsFrom 0 s (terms (values es) (located 528 (indices ps))) =
+    must_pass 7 528 s c.locator.result (values es) (lit≤ tt) c.told-s c.locator.ensures
+    (located 528 (indices ps)) at_roots (omega (arith, wide))
+    (λ i h. c.errors_at-errors.ensures.values i (omega (arith, located_long ps))) e x in
+    let passed : IsTrue false = c.if-explained.ensures.1 (subst (SumsFrom 0 s) (sym (ap listed c.as_slice-2.ensures.value ∙ terms_are)) sums) in
+    search rules

@@ -1,15 +1,9 @@
--- The answer, and the laws that follow from it.
-use Rattle.signal.proofs.Once.{once, reads_back, is_written}
+-- The laws that follow from the answer.
+use Rattle.signal.proofs.Once.{once, reads_back}
 use Rattle.signal.proofs.reading.read.Goals as goal
 
-pub returns : goal.returns
-returns c =
-    let recording = c.args.recording.now in
-    let r = c.read_checked.result in
-    let h = c.read_checked.ensures in
-    record {
-      answer = h;
-      only = λ other o. once recording c.args.start r other h o;
-      back = reads_back recording c.args.start r h;
-      written = is_written recording c.args.start r h;
-    }
+pub returns-clause-only : goal.returns-clause-only
+returns-clause-only c = λ other o. once c.args.recording.now c.args.start c.read.result other (rw c.in_ok-new.ensures at c.read.ensures) o
+
+pub returns-clause-back : goal.returns-clause-back
+returns-clause-back c = reads_back c.args.recording.now c.args.start c.read.result (rw c.in_ok-new.ensures at c.read.ensures)

@@ -1,22 +1,16 @@
-use Rattle.std.proofs.Common.{◌≡◌, true, false, get_or, is_some, ◌∙◌, arith}
+use Rattle.std.proofs.Common.{◌≡◌, not, is_some, ◌∙◌, arith, rules, nat_lt, length}
+use borrow.Author.Tests.{tests}
+use Rattle.std.proofs.lemmas.Bool.Decides.{nat_tests}
+use Rattle.std.proofs.lemmas.Iterator.{YieldsList-from_slice}
+use Rattle.std.proofs.lemmas.Iterator.Search.{position_from_yields_List}
+use Rattle.std.proofs.lemmas.Iterator.Adapters.{position_from-zero}
+use Rattle.std.specs.List.{position_from}
 use Rattle.text.specs.Text.{hex_digit}
-use Rattle.text.proofs.Alike.{digit_passes, digit_fails, digits_short, digits_full}
+use Rattle.text.proofs.Alike.{digits_fault}
 use Rattle.text.proofs.tokens.body_fault.Goals as goal
 
-pub returns-then-is_none : goal.returns-then-is_none
-returns-then-is_none c =
-    let n = c.if-is_none.ensures in
-    let t : is_some (hex_digit (get_or c.args.bytes.now c.loop-i.i 0)) ≡ false = cc in
-    digit_fails c.args.column 16 c.loop-i.i c.args.bytes.now (omega arith) c.requires.few t ∙ c.loop-i.invariant
-
-pub loop-i-preserved : goal.loop-i-preserved
-loop-i-preserved c =
-    let n = c.if-is_none.ensures in
-    let t : is_some (hex_digit (get_or c.args.bytes.now c.loop-i.i 0)) ≡ true = cc in
-    digit_passes c.args.column 16 c.loop-i.i c.args.bytes.now (omega arith) c.requires.few t ∙ c.loop-i.invariant
-
-pub returns-then-bytes-lt-BODY_DIGITS : goal.returns-then-bytes-lt-BODY_DIGITS
-returns-then-bytes-lt-BODY_DIGITS c = digits_short c.args.column 16 c.loop-i.i c.args.bytes.now (omega arith) (omega arith) ∙ c.loop-i.invariant
-
-pub returns-else-bytes-lt-BODY_DIGITS : goal.returns-else-bytes-lt-BODY_DIGITS
-returns-else-bytes-lt-BODY_DIGITS c = digits_full c.args.column 16 c.loop-i.i c.args.bytes.now (omega arith) ∙ c.loop-i.invariant
+pub returns : goal.returns
+returns c =
+    let w : c.position-wrong.result ≡ position_from (λ b. not (is_some (hex_digit b))) 0 c.args.bytes.now =
+    position_from_yields_List (λ b. not (is_some (hex_digit b))) _ _ c.position-wrong.result c.position-wrong.ensures.ran (YieldsList-from_slice _ c.iter.ensures.rest) (λ x b q k. search (rules, tests)) ∙ position_from-zero (λ b. not (is_some (hex_digit b))) c.args.bytes.now in
+    digits_fault c.args.column 16 c.args.bytes.now (nat_lt (length c.args.bytes.now) 16) c.position-wrong.result c.fault_of.result c.fault_of.ensures w c.requires.few (λ h. grind (arith, nat_tests)) (λ h. grind (arith, nat_tests))

@@ -1,29 +1,17 @@
 -- What is left to show of `mend`.
-use Rattle.std.proofs.Common.{refl, lit≤}
-use Rattle.reed_solomon.proofs.Mending.{front_message, front_word, hopeless_far}
+use Rattle.std.proofs.Common.{◌≡◌, length, subst, rules}
+use Rattle.symbols.specs.Symbols.{Symbols}
+use Rattle.reed_solomon.proofs.Mending.{mended}
 use Rattle.reed_solomon.proofs.codec.ReedSolomonCode.mend.Goals as goal
 
-pub returns-in-Some : goal.returns-in-Some
-returns-in-Some c =
-    let line = c.repair.new.line in
-    let message = c.copy_from_slice.new.self in
-    let repaired = c.in-Some.ensures in
-    record {
-      sized = c.in_ok-check_lengths.ensures;
-      symbols = c.in_ok-check_symbols.ensures;
-      is_message = front_message 7 (lit≤ tt) line message repaired.word c.copy_from_slice.ensures.after;
-      becomes = front_word 7 (lit≤ tt) line message repaired.word c.copy_from_slice.ensures.after;
-      answer = repaired.answer;
-      near = repaired.near;
-    }
-
-pub returns-in-None : goal.returns-in-None
-returns-in-None c = (
-  (
-    c.in_ok-check_lengths.ensures,
-    c.in_ok-check_symbols.ensures,
-    hopeless_far 7 (lit≤ tt) c.args.line.now c.in-None.ensures.0,
-  ),
-  c.in-None.ensures.1,
-  refl,
-)
+pub returns : goal.returns
+returns c =
+    let line_there : c.in_ok-line.field-0.now ≡ c.args.line.now = search rules in
+    let message_there : c.in_ok-message.field-0.now ≡ c.args.message.now = search rules in
+    let long : length c.args.message.now ≡ 514 = search rules in
+    let line_long : length c.args.line.now ≡ 528 = search rules in
+    mended c.args.line.now c.args.message.now c.read_word.new.line c.read_word.new.message c.read_word.result c.ok_or-3.result
+    (record { message_long = long; line_long = line_long })
+    (subst Symbols line_there c.in_ok-check_symbols.ensures)
+    (rw (← line_there, ← message_there) c.read_word.ensures)
+    c.ok_or-3.ensures.value

@@ -1,0 +1,2 @@
+-- Lemmas on arrays.
+pub mod FromFn

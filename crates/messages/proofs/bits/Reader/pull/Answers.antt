@@ -1,0 +1,35 @@
+use Rattle.std.proofs.Common.{◌≡◌, ◌-◌, ◌/◌, ◌%◌, ◌^◌, ◌<◌, length, take, drop, ap, ◌∙◌, arith}
+use Rattle.std.proofs.lemmas.List.{take_all, length-drop}
+use Rattle.blocks.specs.Packed.{packed}
+use Rattle.messages.specs.Readers.{Ahead}
+use Rattle.messages.proofs.Pulls.{small_rest, drawn, mask, low_bits, high_bits, held_after}
+use Rattle.messages.proofs.bits.Reader.pull.Goals as goal
+
+pub loop-self-preserved : goal.loop-self-preserved
+loop-self-preserved c =
+    let inv = c.loop-self.invariant in
+    let now = c.loop-self.self-inside in
+    let xs = now.symbols.now in
+    let count = ap (λ (a : Ahead). a.count) inv.same in
+    let some : 0 < length xs = omega (arith, count) in
+    let is : take (length xs - 1) (drop 1 xs) ≡ drop 1 xs = take_all (length xs - 1) (drop 1 xs) (omega (arith, length-drop 1 xs)) in
+    let d = drawn now.acc now.fill xs _ is (omega arith) some (inv.small 0 some) inv.held in
+    record { held = d.0; few = omega arith; small = small_rest now.acc now.fill xs _ is inv.small; same = d.1 ∙ inv.same }
+
+pub invariant_of-self : goal.invariant_of-self
+invariant_of-self c =
+    let inv = c.loop-self.invariant in
+    let now = c.loop-self.self-inside in
+    record { held = held_after now.acc now.fill c.args.width (packed 10 now.symbols.now) (omega arith) inv.held; few = omega arith; small = inv.small }
+
+pub returns-clause-value : goal.returns-clause-value
+returns-clause-value c =
+    let inv = c.loop-self.invariant in
+    let now = c.loop-self.self-inside in
+    mask now.acc c.args.width c.requires.narrow ∙ low_bits now.acc now.fill c.args.width (packed 10 now.symbols.now) (omega arith) ∙ ap (λ (a : Ahead). a.bits % 2 ^ c.args.width) inv.same
+
+pub returns-clause-bits : goal.returns-clause-bits
+returns-clause-bits c =
+    let inv = c.loop-self.invariant in
+    let now = c.loop-self.self-inside in
+    high_bits now.acc now.fill c.args.width (packed 10 now.symbols.now) (omega arith) ∙ ap (λ (a : Ahead). a.bits / 2 ^ c.args.width) inv.same
