@@ -101,7 +101,7 @@ fn words_of(block: &Block) -> Result<[Word; 4], BlockRefusal>
 {
     let mut reader = Reader::new(block.limbs[0]);
     let mut words = [Word::Data(0); 4];
-    // By place, which a refusal names, as in the loop that fills a block.
+    // By place, which a refusal names: after a loop over `words.iter_mut().zip(..)` no proof knows what was written.
     for (j, limb) in block.limbs[1..].iter().enumerate() {
         words[j] = reader.take(*limb, j)?;
     }

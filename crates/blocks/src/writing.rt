@@ -95,12 +95,14 @@ fn filled(words: &[Word; 4]) -> Block
     ensures valid { AllValid (raws words.now) }
 {
     let mut writer = Writer::new(words);
-    let mut limbs = [0; 5];
-    // By place: after a loop over `limbs.iter_mut().zip(words)` no proof knows what was written.
-    for (j, word) in words.iter().enumerate() {
-        limbs[j] = writer.put(*word);
-    }
-    limbs[4] = writer.acc as u64;
+    let [a, b, c, d] = *words;
+    let limbs = [
+        writer.put(a),
+        writer.put(b),
+        writer.put(c),
+        writer.put(d),
+        writer.acc as u64,
+    ];
     Block { limbs }
 }
 

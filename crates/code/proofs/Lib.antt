@@ -1,3 +1,4 @@
 -- Lemmas, by topic.
 pub mod Off
 pub mod Table
+pub mod FromFn

@@ -47,7 +47,7 @@ impl<C: Code> CorrectionOff<C> {
     }
 
     // Gives the message of a line that is a code word as it stands. The code below mends copies.
-    // Scrambled copies the line too, and writes the copy back; a function that lends a copy to a closure is no shorter.
+    // Scrambled and the port's reading copy the line too, and write the copy back; a function that lends a copy to a closure is no shorter.
     fn accept(&self, line: &[u16], message: &mut [u16]) -> Result<usize, CodeRefusal>
         ensures { Mended (off (C.Code.model self.now.inner)) line.now message.old line.now message.new result }
     {

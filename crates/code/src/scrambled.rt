@@ -37,6 +37,7 @@ impl<C: Code> Code for Scrambled<C> {
     // Only a line that was mended is written back, so that a refusal leaves it as it was.
     fn mend(&self, line: &mut [u16], message: &mut [u16]) -> Result<usize, CodeRefusal> {
         check_lengths(self.inner.n(), message, line)?;
+        // No memory is asked for, and only the code says how long its line is: the copy is the front of a room for any line.
         let mut room = [0u16; LONGEST_LINE];
         let word = &mut room[..line.len()];
         let wrong = self.mend_into(line, word, message)?;

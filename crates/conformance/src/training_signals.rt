@@ -10,7 +10,7 @@ use std::test::Fail;
 use training::records::{Control, Status, Training};
 use training::refusals::TrainingRefusal;
 
-// The number and the place of the refusal, if there is one.
+// The number and the place of the refusal, if there is one: these two are what is promised to other programs.
 fn refused<T: Drop>(answer: Result<T, TrainingRefusal>) -> Option<(u8, usize)> {
     answer
         .err()

@@ -3,14 +3,12 @@
 #![tactic(auto)]
 
 ghost use Rattle.std.specs.Prelude.{◌≡◌};
-ghost use Rattle.port.specs.Limits.{zeros};
 ghost use Rattle.exports.specs.Answers.{number_of as answered_number, at_most_999, FormAnswer, MendAnswer, DataWords, WriteAnswer, BodiesOf, ReadAnswer};
 
 use code::interface::Code;
 use code::scrambled::Scrambled;
 use numbered_refusal::Refusal;
 use port::state::Port;
-use port::totals::Totals;
 use port::writing::WORDS;
 use reed_solomon::codec::ReedSolomon;
 use std::array;
@@ -58,14 +56,8 @@ pub extern "C" fn l32_write(bodies: &[u64], line: &mut [u16]) -> u32
     ensures { WriteAnswer bodies.now line.old line.new result }
 {
     let words = data_words(bodies);
-    number_of(opened().write(&words, line).map(|()| 0))
-}
-
-// The port that both calls go over: opened on zeros, which are never refused.
-fn opened() -> Port<Scrambled<ReedSolomon>>
-    ensures { result.totals ≡ zeros }
-{
-    Port::open(Scrambled::over(ReedSolomon), Totals::default()).unwrap()
+    let port = Port::new(Scrambled::over(ReedSolomon));
+    number_of(port.write(&words, line).map(|()| 0))
 }
 
 // Leaves the bodies of the first words, as many as there is room for.
@@ -83,7 +75,7 @@ pub extern "C" fn l32_read(line: &mut [u16], bodies: &mut [u64]) -> u32
     ensures { ReadAnswer line.old bodies.old line.new bodies.new result }
 {
     let mut words = [Word::Data(0); WORDS];
-    let mut port = opened();
+    let mut port = Port::new(Scrambled::over(ReedSolomon));
     let answer = port.read(line, &mut words);
     if answer.is_ok() {
         put_bodies(&words, bodies);

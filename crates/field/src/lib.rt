@@ -1,7 +1,7 @@
 // Arithmetic of GF(2^10), the field of the code's symbols; addition is `^`.
 #![tactic(auto)]
 
-ghost use Rattle.std.specs.Prelude.{◌≡◌, ℕ, ◌%◌, ◌<◌, MatchOption};
+ghost use Rattle.std.specs.Prelude.{◌≡◌, ◌%◌, ◌<◌, MatchOption};
 ghost use Rattle.field.specs.Field.{mul, pow, inv, α};
 ghost use Rattle.field.specs.Laws.{RingLaws, InverseLaws, AlphaLaws, ExponentOf};
 
@@ -37,11 +37,7 @@ pub fn exponent(a: u16) -> Option<usize>
     ensures { MatchOption result (a % 1024 ≡ 0) (ExponentOf (a % 1024)) }
 {
     let element = a & LOWEST_TEN;
-    if element == 0 {
-        None
-    } else {
-        Some(log(element))
-    }
+    (element != 0).then(|| log(element))
 }
 
 // The product of two elements.

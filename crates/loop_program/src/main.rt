@@ -19,9 +19,9 @@ fn read_text<R: Read + Drop>(heap: Global, input: R) -> io::Result<Vec<u8>>
     ensures first { IfOk result (λ text. IfSome (R.remaining input) (λ bytes. text.items ≡ take enough bytes)) }
 {
     let mut text = Vec::new(heap);
-    for byte in input.bytes().take(ENOUGH) {
-        text.push(byte?)?;
-    }
+    input.take(ENOUGH as u64).read_to_end(&mut text)?;
+    // That no more was read is not promised for a reader that does not tell its bytes.
+    text.truncate(ENOUGH);
     Ok(text)
 }
 

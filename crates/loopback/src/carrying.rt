@@ -1,10 +1,10 @@
 // Eighty words written to a line, the line damaged, and the words read back.
 ghost use Rattle.std.specs.Prelude.{◌≡◌, ◌≤◌, length};
-ghost use Rattle.port.specs.Limits.{zeros};
 ghost use Rattle.loopback.specs.Damage.{flipped};
 ghost use Rattle.loopback.specs.Carried.{CarriedHome, NearLinesReadHome};
 
 use code::interface::{Code, LONGEST_LINE};
+use messages::WORDS;
 use port::state::Port;
 use port::totals::Totals;
 use words::word::Word;
@@ -15,7 +15,7 @@ pub const DAMAGED: usize = 7;
 // The words that were read, and the totals of the port.
 #[derive(Drop)]
 pub struct Carried {
-    pub words: [Word; 80],
+    pub words: [Word; WORDS],
     pub totals: Totals,
 }
 
@@ -29,28 +29,20 @@ fn flip(line: &mut [u16])
     }
 }
 
-// A port over the code, opened on zeros, which are never refused.
-fn opened<C: Code + Drop>(code: C) -> Port<C>
-    ensures code { result.code ≡ code }
-    ensures totals { result.totals ≡ zeros }
-{
-    Port::open(code, Totals::default()).unwrap()
-}
-
-// Opens a port on zeros, writes the words, flips bit 0 of the first seven symbols of the line, reads it, and answers the
+// Makes a port over the code, writes the words, flips bit 0 of the first seven symbols of the line, reads it, and answers the
 // words and the totals. A code that mends seven symbols brings every list of words home.
-pub fn carry<C: Code + Drop>(code: C, words: &[Word; 80]) -> Carried
+pub fn carry<C: Code + Drop>(code: C, words: &[Word; WORDS]) -> Carried
     ensures carried { CarriedHome (C.Code.model code) words.now result.words result.totals }
     ensures home { NearLinesReadHome (C.Code.model code) }
 {
     let n = code.n();
-    let mut port = opened(code);
+    let mut port = Port::new(code);
     // Only the code says how long its line is, and no memory is asked for: the line is the front of a room for any.
     let mut room = [0u16; LONGEST_LINE];
     let line = &mut room[..n];
     let _ = port.write(words, line);
     flip(line);
-    let mut read = [Word::Data(0); 80];
+    let mut read = [Word::Data(0); WORDS];
     let _ = port.read(line, &mut read);
     Carried {
         words: read,

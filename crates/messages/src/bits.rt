@@ -7,7 +7,7 @@ use blocks::block::Block;
 use std::marker::Model;
 
 // Writes bits as symbols: `fill` bits, fewer than ten, wait in `acc` above the first `at` symbols of `out`, which are
-// written.
+// written. A place beside the whole slice: a slice that shrinks would let go of what the contracts speak of.
 #[derive(Drop)]
 pub(crate) struct Writer<'a> {
     out: &'a mut [u16],
@@ -87,6 +87,7 @@ impl<'a> Model for Reader<'a> {
 }
 
 impl<'a> Reader<'a> {
+    // That the numbers are symbols is a clause, one word; a type round a lent message would be taken off at the next call.
     pub(crate) fn new(symbols: &'a [u16]) -> Reader<'a>
         requires { Symbols symbols.now }
         ensures bits { result.bits ≡ packed 10 symbols.now }
@@ -107,8 +108,9 @@ impl<'a> Reader<'a> {
         ensures count { self.new.count + width ≡ self.old.count }
     {
         while self.fill < width {
-            self.acc += (self.symbols[0] as u128) << self.fill;
-            self.symbols = &self.symbols[1..];
+            let (symbol, rest) = self.symbols.split_first().unwrap();
+            self.acc += (*symbol as u128) << self.fill;
+            self.symbols = rest;
             self.fill += 10;
         }
         let value = (self.acc & ((1u128 << width) - 1)) as u64;

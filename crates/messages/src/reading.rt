@@ -7,18 +7,19 @@ ghost use Rattle.messages.specs.Messages.{MessageRead, ReadsBack};
 ghost use Rattle.messages.specs.Numbers.{message_of};
 ghost use Rattle.messages.specs.Reading.{Told, read_message};
 
+use crate::WORDS;
 use crate::bits::Reader;
 use crate::refusal::MessageRefusal;
-use symbols::first_above;
+use symbols::{MESSAGE_LENGTH, first_above};
 use words::word::Word;
 
-fn read(symbols: &[u16; 514]) -> Result<[Word; 80], MessageRefusal>
+fn read(symbols: &[u16; MESSAGE_LENGTH]) -> Result<[Word; WORDS], MessageRefusal>
     requires { Symbols symbols.now }
     ensures { Told result (read_message 20 0 (packed 10 symbols.now)) }
 {
-    let mut words = [Word::Data(0); 80];
+    let mut words = [Word::Data(0); WORDS];
     let mut reader = Reader::new(symbols);
-    // By the block's number, which a refusal names: no proof is made for a loop over arrays of words as items.
+    // By the block's number, which a refusal names: Rattle makes no proof of a loop whose items are arrays of words.
     for b in 0..20 {
         let four = reader
             .pull_block()
@@ -31,7 +32,7 @@ fn read(symbols: &[u16; 514]) -> Result<[Word; 80], MessageRefusal>
 
 // The eighty words whose message this is, or why there are none: the first number that is no symbol, or else the
 // first block that has no words.
-pub fn from_message(message: &[u16; 514]) -> Result<[Word; 80], MessageRefusal>
+pub fn from_message(message: &[u16; MESSAGE_LENGTH]) -> Result<[Word; WORDS], MessageRefusal>
     ensures rules { MessageRead message.now result }
     ensures back { ReadsBack message.now result }
     ensures again { IfOk result (λ ws. message_of (raws ws) ≡ message.now) }

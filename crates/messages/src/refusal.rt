@@ -7,7 +7,8 @@ use numbered_refusal::Refusal;
 use std::error::Error;
 use std::fmt;
 
-// A number above 1,023 is no symbol; a block is counted from 0 to 19.
+// A number above 1,023 is no symbol, as in the refusals of codes, whose enum says the same for itself: an enum for each layer
+// tells which refusals a call can give. A block is counted from 0 to 19.
 #[derive(Clone, Copy, PartialEq, Eq, Debug, Drop)]
 pub enum MessageRefusal {
     Symbol { place: usize },

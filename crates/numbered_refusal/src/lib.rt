@@ -14,11 +14,12 @@ pub trait Refusal {
     fn number(&self) -> u8
         ensures { result ≡ numbered self.now };
 
-    // Where the fault lies: what is counted there is said at each number, and it is 0 where nothing is.
+    // Where the fault lies: what is counted there is said at each number. 0 stands where nothing is counted, since the place
+    // too is a number that is printed and told to other programs.
     fn place(&self) -> usize
         ensures { result ≡ placed self.now };
 
-    // The layer that refuses, by its number, the tens digit: no enum of layers would say more than the type of the refusal.
+    // The layer that refuses, the tens digit of the number: a number itself, since it is printed and told to other programs.
     fn layer(&self) -> u8
         ensures { result ≡ layer_of (numbered self.now) }
     {

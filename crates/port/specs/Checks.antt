@@ -1,22 +1,24 @@
 -- For proofs: what the parts of a reading do before any total changes.
-use Rattle.std.specs.Prelude.{◌≡◌, ℕ, ◌≤◌, List, Ok, Err, Result}
+use Rattle.std.specs.Prelude.{◌≡◌, ℕ, ◌≤◌, List, length, Ok, Err, Result}
+use Rattle.symbols.specs.Symbols.{Symbols}
 use Rattle.words.specs.Words.{raws}
 use Rattle.words.specs.declared.word.Word.{Word}
-use Rattle.messages.specs.Messages.{MessageRead}
+use Rattle.messages.specs.Messages.{word_count, MessageRead}
 use Rattle.messages.specs.Numbers.{message_of}
 use Rattle.messages.specs.declared.refusal.MessageRefusal.TheVariants as of_message
 use Rattle.code.specs.Distance.{distance}
 use Rattle.code.specs.Codes.{Model, Near, Far}
 use Rattle.code.specs.declared.refusal.CodeRefusal.TheVariants as of_code
-use Rattle.port.specs.Calls.{Ready, ReadRefused, Unreadable}
+use Rattle.port.specs.Limits.{Room}
+use Rattle.port.specs.Calls.{ReadRefused, Unreadable}
 use Rattle.port.specs.declared.totals.Totals.{Totals}
 use Rattle.port.specs.declared.refusal.PortRefusal.{PortRefusal}
 use Rattle.port.specs.declared.refusal.PortRefusal.TheVariants.{Opening, Length, Full, Code, Message}
 
--- the checks before the line is mended
-abbrev pub Checked : Model → Totals → List ℕ → List Word → Result Unit PortRefusal → Type 0
-Checked m a line words (Ok u) = Ready m a line words
-Checked m a line words (Err e) = ReadRefused m a line words a e
+-- the checks before the line is mended, whichever eighty words are lent
+abbrev pub Checked : Model → Totals → List ℕ → Result Unit PortRefusal → Type 0
+Checked m a line (Ok u) = (length line ≡ m.n) × Symbols line × Room m.t a
+Checked m a line (Err e) = (words : List Word) → length words ≡ word_count → ReadRefused m a line words a e
 
 -- the line, a copy, was mended and its message read
 pub record Found (m : Model) (line line' : List ℕ) (words : List Word) (d : ℕ) : Type 0 where

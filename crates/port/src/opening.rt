@@ -1,6 +1,6 @@
 // Opening a port, and asking for its totals.
 ghost use Rattle.std.specs.Prelude.{◌≡◌, [], IfOk, MatchResult};
-ghost use Rattle.port.specs.Limits.{Within};
+ghost use Rattle.port.specs.Limits.{Within, zeros};
 ghost use Rattle.port.specs.Runs.{Reached, Extends, ask as ask_event};
 ghost use Rattle.port.specs.Promise.{Promise, TotalsTrue};
 
@@ -13,6 +13,19 @@ use code::interface::Code;
 pub(crate) const LIMIT: u64 = 1 << 40;
 
 impl<C: Code> Port<C> {
+    // A port over the code that has counted nothing yet. The whole promise stands here, as where a port is opened.
+    pub fn new(code: C) -> Port<C>
+        ensures code { result.code ≡ code }
+        ensures totals { result.totals ≡ zeros }
+        ensures begins { Reached (C.Code.model code) zeros [] result.totals }
+        ensures promise { Promise (C.Code.model code) }
+    {
+        Port {
+            code,
+            totals: Totals::default(),
+        }
+    }
+
     // A port over the code that goes on counting from these totals. The whole promise stands here.
     pub fn open(code: C, opening: Totals) -> Result<Port<C>, PortRefusal>
     where

@@ -1,7 +1,6 @@
 // Reading words from a line.
 ghost use Rattle.std.specs.Prelude.{◌≡◌, length};
 ghost use Rattle.symbols.specs.Symbols.{Symbols};
-ghost use Rattle.messages.specs.Messages.{word_count};
 ghost use Rattle.port.specs.Calls.{Reads};
 ghost use Rattle.port.specs.Checks.{Checked, Searched};
 ghost use Rattle.port.specs.Runs.{Extends, read as read_event};
@@ -17,10 +16,10 @@ use words::word::Word;
 
 impl<C: Code> Port<C> {
     // The checks of a reading that change nothing at all.
-    fn check(&self, line: &[u16], words: &[Word]) -> Result<(), PortRefusal>
-        ensures { Checked (C.Code.model self.now.code) self.now.totals line.now words.now result }
+    fn check(&self, line: &[u16]) -> Result<(), PortRefusal>
+        ensures { Checked (C.Code.model self.now.code) self.now.totals line.now result }
     {
-        if words.len() != WORDS || line.len() != self.code.n() {
+        if line.len() != self.code.n() {
             return Err(PortRefusal::Length);
         }
         check_symbols(line)?;
@@ -32,16 +31,14 @@ impl<C: Code> Port<C> {
     }
 
     // Turns the line into the code word near it, fills the words that it codes, and answers the distance between the two.
-    fn search(&self, line: &mut [u16], words: &mut [Word]) -> Result<usize, PortRefusal>
+    fn search(&self, line: &mut [u16], words: &mut [Word; WORDS]) -> Result<usize, PortRefusal>
         requires long { length line.old ≡ (C.Code.model self.now.code).n }
         requires small { Symbols line.old }
-        requires eighty { length words.old ≡ word_count }
         ensures { Searched (C.Code.model self.now.code) line.old words.old line.new words.new result }
     {
         let mut message = [0u16; MESSAGE_LENGTH];
         let distance = self.code.mend(line, &mut message)?;
-        let found = from_message(&message)?;
-        words.copy_from_slice(&found);
+        *words = from_message(&message)?;
         Ok(distance)
     }
 
@@ -50,7 +47,9 @@ impl<C: Code> Port<C> {
         ensures code { self.new.code ≡ self.old.code }
         ensures does { Reads (C.Code.model self.old.code) self.old.totals line.old words.old line.new words.new self.new.totals result }
     {
-        self.check(line, words)?;
+        let words = words.as_mut_array::<WORDS>().ok_or(PortRefusal::Length)?;
+        self.check(line)?;
+        // No memory is asked for: the copy is the front of a room for any line.
         let mut room = [0u16; LONGEST_LINE];
         let word = &mut room[0..line.len()];
         word.copy_from_slice(line);

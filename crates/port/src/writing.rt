@@ -9,8 +9,8 @@ use messages::writing::to_message;
 use symbols::MESSAGE_LENGTH;
 use words::word::Word;
 
-// A line codes eighty words.
-pub const WORDS: usize = 80;
+// A line codes eighty words, as many as its message.
+pub use messages::WORDS;
 
 impl<C: Code> Port<C> {
     fn put(&self, words: &[Word], line: &mut [u16]) -> Result<(), PortRefusal>

@@ -7,7 +7,8 @@ use training::refusals::TrainingRefusal;
 // How many TUI a marker has.
 pub const MARKER_TUI: usize = 32;
 
-// Their levels: sixteen high, then sixteen low.
+// Their levels: sixteen high, then sixteen low. A list, since the search goes over the bits of a marker; a reading of a
+// signal looks at its two runs.
 const MARKER: [bool; MARKER_TUI] = [
     true, true, true, true, true, true, true, true, true, true, true, true, true, true, true, true,
     false, false, false, false, false, false, false, false, false, false, false, false, false,
@@ -21,6 +22,7 @@ pub fn find(recording: &[u8], start: usize) -> Result<usize, TrainingRefusal>
     let recording = Recording::new(recording)?;
     let end = recording.tui_count();
     let mut place = start;
+    // By place: at the first TUI that differs from the marker the label goes on with the next place.
     let found = 'search: loop {
         // A marker does not fit any more: the test takes no sum with `place`, which may be as large as a usize gets.
         if end < MARKER_TUI || place > end - MARKER_TUI {

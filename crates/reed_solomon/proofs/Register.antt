@@ -1,7 +1,6 @@
 -- The loops of the division, and the line that they leave.
 use Rattle.std.proofs.Common.{◌≡◌, ℕ, ◌<◌, List, [], ◌∷◌, ◌++◌, ◌-◌, length, get_or, take, drop, refl, ap, ◌∙◌, ap₂, not-suc-le-zero, arith, length-drop, length-append, take_at}
 use lib.Bits.{bit_xor}
-use Rattle.std.proofs.lemmas.List.{append-nil}
 use Rattle.symbols.specs.Symbols.{Symbols}
 use Rattle.reed_solomon_algebra.specs.Polynomials.{plus, scale}
 use Rattle.reed_solomon_algebra.specs.Division.{below_first, step, remainder, parity, encode}

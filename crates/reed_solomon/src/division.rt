@@ -1,16 +1,14 @@
 // The parity symbols of a message: what is left of it, divided by the generator.
-ghost use Rattle.std.specs.Prelude.{◌≡◌, ◌<◌, length, take, drop};
+ghost use Rattle.std.specs.Prelude.{◌≡◌, ◌<◌, take, drop};
 ghost use Rattle.symbols.specs.Symbols.{Symbols};
 ghost use Rattle.reed_solomon_algebra.specs.Division.{below_first, step as step_of, parity as parity_of};
 ghost use Rattle.reed_solomon_algebra.specs.Polynomials.{plus as sum_of, scale};
 
 use crate::codec::LINE_LENGTH;
 use crate::rows::{HIGH, LOW};
+pub(crate) use reed_solomon_decoder::line::PARITY;
 use std::array;
 use symbols::MESSAGE_LENGTH;
-
-// How many parity symbols a line has.
-const PARITY: usize = 14;
 
 // The sum of two polynomials, coefficient by coefficient.
 fn plus(p: &[u16; PARITY], q: &[u16; PARITY]) -> [u16; PARITY]
@@ -31,6 +29,7 @@ fn multiples(factor: u16) -> [u16; PARITY]
 }
 
 // The remainder once one more symbol has come behind those divided so far, whose remainder is the tail.
+// That numbers are symbols is a clause here and below, one word; a type round lent lines would be put on and off at each call.
 fn step(tail: &[u16; PARITY], symbol: u16) -> [u16; PARITY]
     requires symbols { Symbols tail.now }
     requires small { symbol < 1024 }
@@ -59,7 +58,5 @@ pub(crate) fn rest_of(line: &[u16; LINE_LENGTH]) -> [u16; PARITY]
 {
     let mut due = [0; PARITY];
     divide(&line[..MESSAGE_LENGTH], &mut due);
-    let mut had = [0; PARITY];
-    had.copy_from_slice(&line[MESSAGE_LENGTH..]);
-    plus(&due, &had)
+    plus(&due, line.last_chunk().unwrap())
 }

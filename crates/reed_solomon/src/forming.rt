@@ -1,6 +1,6 @@
 // Forming a line: the message in front, and its parity behind it.
-ghost use Rattle.std.specs.Prelude.{◌≡◌, length};
-ghost use Rattle.symbols.specs.Symbols.{Message, Symbols};
+ghost use Rattle.std.specs.Prelude.{◌≡◌};
+ghost use Rattle.symbols.specs.Symbols.{Symbols};
 ghost use Rattle.reed_solomon_algebra.specs.Division.{encode};
 
 use crate::codec::LINE_LENGTH;

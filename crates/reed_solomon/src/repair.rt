@@ -1,11 +1,10 @@
 // Repairing a line of symbols.
-ghost use Rattle.std.specs.Prelude.{◌≡◌};
 ghost use Rattle.symbols.specs.Symbols.{Symbols};
 ghost use Rattle.reed_solomon.specs.Repaired.{Repaired};
 
 use crate::codec::LINE_LENGTH;
 use crate::correction::correct;
-use crate::division::rest_of;
+use crate::division::{PARITY, rest_of};
 use crate::syndromes::syndromes;
 use reed_solomon_decoder::errors::decode;
 
@@ -15,7 +14,7 @@ pub(crate) fn repair(line: &mut [u16; LINE_LENGTH]) -> Option<usize>
     ensures { Repaired 7 line.old line.new result }
 {
     let rest = rest_of(line);
-    if rest == [0; 14] {
+    if rest == [0; PARITY] {
         return Some(0);
     }
     let errors = decode(&syndromes(&rest))?;

@@ -4,7 +4,6 @@ pub mod Roots
 pub mod Places
 pub mod Rows
 pub mod Turns
-pub mod Filled
 pub mod Values
 pub mod Composition
 pub mod Exponents

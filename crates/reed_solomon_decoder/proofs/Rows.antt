@@ -1,7 +1,10 @@
 -- Elimination of one window from the rows.
-use Rattle.std.proofs.Common.{◌≡◌, ℕ, zero, suc, ◌+◌, ◌<◌, ◌≤◌, ◌≢◌, ◌==◌, eqb, lt-ltb, Bool, true, false, cond, not, nat_lt, inl, inr, Some, None, Option, position, List, [], ◌∷◌, length, length-take-le, get_or, get_or-take, take, drop, sym, refl, ap, ◌∙◌, subst, ap₂, not-suc-le-zero, arith, lit<}
+use Rattle.std.proofs.Common.{◌≡◌, ℕ, zero, suc, ◌+◌, ◌<◌, ◌≤◌, ◌≢◌, ◌==◌, eqb, lt-ltb, Bool, true, false, cond, not, nat_lt, inl, inr, Some, None, Option, position, List, [], ◌∷◌, length, ◌++◌, ◌-◌, length-take-le, length-drop, get_or, get_or-take, get_or-drop, take, drop, sym, refl, ap, ◌∙◌, subst, ap₂, not-suc-le-zero, arith, lit<}
 use native.Mathlib.Decide.{dec_lt, ℕ_discrete}
-use Rattle.std.specs.List.{position_or_len}
+use borrow.Rule.Slice.PartMut.{mid_of, put_mid, post_of, same_len_mid}
+use Rattle.std.proofs.Math.ListN.{get_or-append}
+use Rattle.std.proofs.lemmas.List.{get_or-append_right}
+use Rattle.std.specs.List.{position_or_len, RotatedLeft}
 use Rattle.reed_solomon_decoder.proofs.Places.{eq_false}
 use Rattle.std.proofs.lemmas.Bool.{cases_lt}
 use Rattle.std.proofs.lemmas.List.Quantifiers.{position-Some}
@@ -13,7 +16,7 @@ use Rattle.field.proofs.Powers.{mul_inv}
 use Rattle.field.specs.Field.{inv, mul}
 use Rattle.reed_solomon_algebra.specs.Polynomials.{Elements}
 use Rattle.reed_solomon_decoder.specs.Errors.{dot}
-use Rattle.reed_solomon_decoder.specs.Kernel.{Fresh, Kernel, Kills, Locator, Plus}
+use Rattle.reed_solomon_decoder.specs.Kernel.{Fresh, Kernel, Kills, Locator, Plus, Reduced}
 
 suc_inj : (a b : ℕ) → suc a ≡ suc b → a ≡ b
 suc_inj a b e = omega arith
@@ -56,23 +59,27 @@ plus_kills s r v w c j a b p kv kw i h =
 pub plus_same : (r v w : List ℕ) (c d : ℕ) → Plus r v c w → get_or w d 0 ≡ 0 → get_or r d 0 ≡ get_or v d 0
 plus_same r v w c d p z = p d ∙ ap (bit_xor (get_or v d 0)) (ap (mul c) z ∙ mul_zero_r c) ∙ xor_zero_r (get_or v d 0)
 
--- a row of those that come out
-pub record Reduced (s : List ℕ) (j : ℕ) (r v w : List ℕ) : Type 0 where
-  pub by : ℕ
-  pub wide : length r ≡ length v
-  pub plus : Plus r v by w
-  pub gone : dot r (drop j s) ≡ 0
+-- a window of as many symbols as the row has is as good as all that follows
+pub dot_take : (u s : List ℕ) (n : ℕ) → length u ≤ n → dot u (take n s) ≡ dot u s
+unfolding dot
+dot_take [] s n h = refl
+dot_take (c ∷ u) s zero h = let f : ⊥ = omega arith in absurd f
+dot_take (c ∷ u) [] (suc n) h = refl
+dot_take (c ∷ u) (b ∷ s) (suc n) h = ap (bit_xor (mul c b)) (dot_take u s n (omega arith))
 
 kills_more : (s u : List ℕ) (j : ℕ) → Kills s u j → dot u (drop j s) ≡ 0 → Kills s u (j + 1)
 kills_more s u j k z = borrow.Author.Count.below_more (λ (i : ℕ). dot u (drop i s) ≡ 0) j k z
 
-module _ (w : ℕ) (s : List ℕ) (j last p : ℕ) (rows out : List (List ℕ))
+module _ (w : ℕ) (s window : List ℕ) (j last p : ℕ) (rows out : List (List ℕ)) (is : window ≡ take w (drop j s))
     (kernel : Kernel w s j (last + 1) rows) (pl : p ≤ last)
-    (clear : (i : ℕ) → i < p → dot (get_or rows i []) (drop j s) ≡ 0)
+    (clear : (i : ℕ) → i < p → dot (get_or rows i []) window ≡ 0)
     (kept : (i : ℕ) → i < p → get_or out i [] ≡ get_or rows i [])
-    (moved : (i : ℕ) → p ≤ i → i < last → Reduced s j (get_or out i []) (get_or rows (i + 1) []) (get_or rows p [])) where
+    (moved : (i : ℕ) → p ≤ i → i < last → Reduced window (get_or out i []) (get_or rows (i + 1) []) (get_or rows p [])) where
   same_width : (i : ℕ) → i < last → length (get_or rows p []) ≡ length (get_or rows (i + 1) [])
   same_width i h = kernel.wide p (omega arith) ∙ sym (kernel.wide (i + 1) (omega arith))
+
+  seen_whole : (u : List ℕ) → length u ≡ w → dot u window ≡ 0 → dot u (drop j s) ≡ 0
+  seen_whole u e z = sym (ap (dot u) is ∙ dot_take u (drop j s) w (omega arith)) ∙ z
 
   step_wide : (i : ℕ) → i < last → length (get_or out i []) ≡ w
   step_wide i h =
@@ -95,13 +102,13 @@ module _ (w : ℕ) (s : List ℕ) (j last p : ℕ) (rows out : List (List ℕ))
       elim (dec_lt i p) [
         | yes q ↦
             subst (λ (u : List ℕ). Kills s u (j + 1)) (sym (kept i q))
-            (kills_more s (get_or rows i []) j (kernel.kills i (omega arith)) (clear i q))
+            (kills_more s (get_or rows i []) j (kernel.kills i (omega arith)) (seen_whole (get_or rows i []) (kernel.wide i (omega arith)) (clear i q)))
         | no q ↦
             let m = moved i (omega arith) h in
             kills_more s (get_or out i []) j
             (plus_kills s (get_or out i []) (get_or rows (i + 1) []) (get_or rows p []) m.by j m.wide (same_width i h) m.plus
             (kernel.kills (i + 1) (omega arith)) (kernel.kills p (omega arith)))
-            m.gone
+            (seen_whole (get_or out i []) (step_wide i h) m.gone)
       ]
 
   -- what stands at d in the rows that come out, where the pivot has nothing
@@ -143,17 +150,17 @@ kernel_found w s j rows k =
     }
 
 -- the row that the code makes
-pub reduced_row : (s : List ℕ) (j : ℕ) (r v w : List ℕ) (e d i c : ℕ) → length r ≡ length v → length w ≡ length v
-    → e ≡ dot v (drop j s) → d ≡ dot w (drop j s) → 0 < dot w (drop j s) → i ≡ inv d → c ≡ mul e i → Plus r v c w → Reduced s j r v w
-reduced_row s j r v w e d i c a b he hd pos hi hc plus =
+pub reduced_row : (window r v w : List ℕ) (e d i c : ℕ) → length r ≡ length v → length w ≡ length v
+    → e ≡ dot v window → d ≡ dot w window → 0 < dot w window → i ≡ inv d → c ≡ mul e i → Plus r v c w → Reduced window r v w
+reduced_row window r v w e d i c a b he hd pos hi hc plus =
     record {
       by = c;
       wide = a;
       plus = plus;
       gone =
-          dot_plus r v w (drop j s) c a b plus
-          ∙ ap (λ (n : ℕ). bit_xor (dot v (drop j s)) (mul n (dot w (drop j s)))) (hc ∙ ap₂ mul he (hi ∙ ap inv hd))
-          ∙ takes_away (dot v (drop j s)) (dot w (drop j s)) (dot_lt v (drop j s)) (dot_lt w (drop j s)) pos;
+          dot_plus r v w window c a b plus
+          ∙ ap (λ (n : ℕ). bit_xor (dot v window) (mul n (dot w window))) (hc ∙ ap₂ mul he (hi ∙ ap inv hd))
+          ∙ takes_away (dot v window) (dot w window) (dot_lt v window) (dot_lt w window) pos;
     }
 
 -- ---- the rows to begin with
@@ -231,3 +238,53 @@ module _ (rows : List (List ℕ)) (v : List ℕ) (last : ℕ) (here : last ≤ l
       nothing_left (dot (get_or rows k []) v)
       (subst (λ (row : List ℕ). left row ≡ false) (get_or-take last rows k [] h)
       (position-None left (take last rows) k [] e (omega (arith, length-take-le last rows here))))
+
+-- ---- what turning the pivot behind the rows up to `last`, and then changing those before it, leaves
+
+module _ {X : Type 0} (a k : ℕ) (xs ys : List X) (inside : a ≤ length xs) where
+  before_part : (i : ℕ) (d : X) → i < a → get_or (put_mid a k xs ys) i d ≡ get_or xs i d
+  before_part i d h = get_or-append (take a xs) _ d i (omega (arith, length-take-le a xs inside)) ∙ get_or-take a xs i d h
+
+  at_part : (i : ℕ) (d : X) → i < length ys → get_or (put_mid a k xs ys) (a + i) d ≡ get_or ys i d
+  at_part i d h =
+      get_or-append_right (take a xs) _ a (a + i) d (length-take-le a xs inside) (omega arith)
+      ∙ ap (λ (n : ℕ). get_or (ys ++ post_of a k xs) n d) (omega arith) ∙ get_or-append ys _ d i h
+
+in_part : {X : Type 0} (a k : ℕ) (xs : List X) (i : ℕ) (d : X) → i < k → get_or (mid_of a k xs) i d ≡ get_or xs (a + i) d
+in_part a k xs i d h = get_or-take k (drop a xs) i d h ∙ get_or-drop a xs i d
+
+part_length : {X : Type 0} (a k : ℕ) (xs : List X) → a + k ≤ length xs → length (mid_of a k xs) ≡ k
+part_length a k xs h = length-take-le k (drop a xs) (omega (arith, length-drop a xs))
+
+module _ {X : Type 0} (xs turned part : List X) (first last : ℕ) (inside : last < length xs) (d : X)
+    (turns : RotatedLeft (mid_of first (last + 1 - first) xs) turned (length (mid_of first (last + 1 - first) xs)) 1)
+    (long : length turned ≡ length (mid_of first (last + 1 - first) xs))
+    (part_long : length part ≡ length (mid_of first (last - first) (put_mid first (last + 1 - first) xs turned))) where
+  abbrev pub behind : List X
+  behind = put_mid first (last + 1 - first) xs turned
+
+  same : length behind ≡ length xs
+  same = same_len_mid first (last + 1 - first) xs turned long
+
+  pub turned_long : first ≤ last → length (mid_of first (last - first) behind) ≡ last - first
+  turned_long f = part_length first (last - first) behind (omega (arith, same))
+
+  pub turned_kept : first ≤ last → (i : ℕ) → i < first → get_or (put_mid first (last - first) behind part) i d ≡ get_or xs i d
+  turned_kept f i h =
+      before_part first (last - first) behind part (omega (arith, same)) i d h
+      ∙ before_part first (last + 1 - first) xs turned (omega arith) i d h
+
+  pub turned_part : first ≤ last → (i : ℕ) → first ≤ i → i < last → get_or (put_mid first (last - first) behind part) i d ≡ get_or part (i - first) d
+  turned_part f i l h =
+      ap (λ (n : ℕ). get_or (put_mid first (last - first) behind part) n d) (omega arith)
+      ∙ at_part first (last - first) behind part (omega (arith, same)) (i - first) d
+      (omega (arith, part_long, turned_long f))
+
+  pub turned_next : first ≤ last → (i : ℕ) → first ≤ i → i < last → get_or (mid_of first (last - first) behind) (i - first) d ≡ get_or xs (i + 1) d
+  turned_next f i l h =
+      let whole : length (mid_of first (last + 1 - first) xs) ≡ last + 1 - first = part_length first (last + 1 - first) xs (omega arith) in
+      in_part first (last - first) behind (i - first) d (omega arith)
+      ∙ at_part first (last + 1 - first) xs turned (omega arith) (i - first) d (omega (arith, long))
+      ∙ turns.0 (i - first) d (omega arith)
+      ∙ in_part first (last + 1 - first) xs (i - first + 1) d (omega arith)
+      ∙ ap (λ (n : ℕ). get_or xs n d) (omega arith)

@@ -8,6 +8,13 @@ use Rattle.reed_solomon_decoder.specs.Errors.{dot, Null}
 abbrev pub Plus : List ℕ → List ℕ → ℕ → List ℕ → Type 0
 Plus r v c w = (k : ℕ) → slice_index r k ≡ add (slice_index v k) (mul c (slice_index w k))
 
+-- r is v with a multiple of w, so that the window has nothing left in it
+pub record Reduced (window r v w : List ℕ) : Type 0 where
+  pub by : ℕ
+  pub wide : length r ≡ length v
+  pub plus : Plus r v by w
+  pub gone : dot r window ≡ 0
+
 -- u annihilates the windows of s that begin below j
 abbrev pub Kills : List ℕ → List ℕ → ℕ → Type 0
 Kills s u j = (i : ℕ) → i < j → dot u (drop i s) ≡ 0

@@ -1,8 +1,9 @@
 // A polynomial that is zero at every error, by elimination on the windows of the syndromes.
-ghost use Rattle.std.specs.Prelude.{◌≡◌, ℕ, ◌+◌, ◌<◌, ◌≤◌, ◌≢◌, ◌==◌, not, length, drop, position, slice_index};
+ghost use Rattle.std.specs.Prelude.{◌≡◌, ℕ, ◌+◌, ◌<◌, ◌≢◌, ◌==◌, not, List, [], length, take, drop, position, slice_index, slice_index_or};
 ghost use Rattle.reed_solomon_decoder.specs.Errors.{dot};
-ghost use Rattle.reed_solomon_decoder.specs.Kernel.{Plus, Kernel, Locator};
+ghost use Rattle.reed_solomon_decoder.specs.Kernel.{Plus, Reduced, Kernel, Locator};
 
+use crate::line::PARITY;
 use field::{inverse, product};
 use std::array;
 
@@ -25,39 +26,37 @@ fn reduced(row: &[u16; 8], by: &[u16; 8], c: u16) -> [u16; 8]
     array::from_fn(|k| row[k] ^ product(c, by[k]))
 }
 
-// What is left of the row at the window of the syndromes that begins at `j`.
-fn residual(row: &[u16; 8], s: &[u16; 14], j: usize) -> u16
-    requires { j < 7 }
-    ensures { result ≡ dot row.now (drop j s.now) }
+// The first of the rows that has something left at the window.
+fn pivot_in(rows: &[[u16; 8]], window: &[u16; 8]) -> Option<usize>
+    ensures { result ≡ position (λ row. not (dot row window.now == 0)) rows.now }
 {
-    dot_with(row, &s[j..])
+    rows.iter().position(|row| dot_with(row, window) != 0)
 }
 
-// The first of the rows that has something left at the window `j`.
-fn pivot_in(rows: &[[u16; 8]], s: &[u16; 14], j: usize) -> Option<usize>
-    requires { j < 7 }
-    ensures { result ≡ position (λ row. not (dot row (drop j s.now) == 0)) rows.now }
+// Takes the window from the rows by the pivot, which has something left there.
+fn reduce(rows: &mut [[u16; 8]], pivot: &[u16; 8], window: &[u16; 8])
+    requires { dot pivot.now window.now ≢ 0 }
+    ensures count { length rows.new ≡ length rows.old }
+    ensures reduced { (i : ℕ) → i < length rows.old → Reduced window.now (slice_index_or rows.new i []) (slice_index_or rows.old i []) pivot.now }
 {
-    rows.iter().position(|row| residual(row, s, j) != 0)
+    let scale = inverse(dot_with(pivot, window));
+    for row in rows {
+        let c = product(dot_with(row, window), scale);
+        *row = reduced(row, pivot, c);
+    }
 }
 
-// Takes the window that begins at `j` from the rows up to `last`, which costs one row.
-fn eliminate(rows: &mut [[u16; 8]; 8], s: &[u16; 14], j: usize, last: usize)
-    requires fits { (last < 8) × (j < 7) }
-    requires kernel { Kernel 8 s.now j (last + 1) rows.old }
-    ensures { Kernel 8 s.now (j + 1) last rows.new }
+// Takes the window from the rows up to `last`, which costs one row.
+fn eliminate(rows: &mut [[u16; 8]; 8], window: &[u16; 8], last: usize)
+    requires fits { last < 8 }
+    ensures { (s : List ℕ) (j : ℕ) → window.now ≡ take 8 (drop j s) → Kernel 8 s j (last + 1) rows.old → Kernel 8 s (j + 1) last rows.new }
 {
-    let Some(first) = pivot_in(&rows[..last], s, j) else {
+    let Some(first) = pivot_in(&rows[..last], window) else {
         return;
     };
     let pivot = rows[first];
-    let scale = inverse(residual(&pivot, s, j));
-    // By index: each row is made in place of the one after it.
-    for i in first..last {
-        let next = rows[i + 1];
-        let c = product(residual(&next, s, j), scale);
-        rows[i] = reduced(&next, &pivot, c);
-    }
+    rows[first..=last].rotate_left(1);
+    reduce(&mut rows[first..last], &pivot, window);
 }
 
 // The polynomial x to the `i`.
@@ -66,17 +65,17 @@ fn unit(i: usize) -> [u16; 8]
     ensures here { i < 8 → slice_index result i ≡ 1 }
     ensures other { (k : ℕ) → k ≢ i → slice_index result k ≡ 0 }
 {
-    array::from_fn(|k| if k == i { 1 } else { 0 })
+    array::from_fn(|k| u16::from(k == i))
 }
 
 // A polynomial of degree at most 7, not zero, that annihilates the seven windows of the syndromes.
-pub(crate) fn locator(s: &[u16; 14]) -> [u16; 8]
+pub(crate) fn locator(s: &[u16; PARITY]) -> [u16; 8]
     ensures { Locator 8 s.now 7 result }
 {
     let mut rows = array::from_fn(unit);
-    // By number: a window is where it begins, and one row less is left after each.
-    for j in 0..7usize {
-        eliminate(&mut rows, s, j, 7 - j);
+    // One row less is left after each of the seven windows.
+    for (j, window) in s.array_windows::<8>().enumerate() {
+        eliminate(&mut rows, window, 7 - j);
     }
     rows[0]
 }

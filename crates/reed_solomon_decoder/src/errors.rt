@@ -1,5 +1,5 @@
 // The errors that have given syndromes.
-ghost use Rattle.std.specs.Prelude.{◌≡◌, ℕ, ◌<◌, ◌≤◌, length, map, slice_index};
+ghost use Rattle.std.specs.Prelude.{◌≡◌, ℕ, ◌<◌, ◌≤◌, length, slice_index};
 ghost use Rattle.reed_solomon_algebra.specs.Polynomials.{Elements};
 ghost use Rattle.reed_solomon_algebra.specs.Terms.{Differ};
 ghost use Rattle.reed_solomon_decoder.specs.Errors.{Agrees, located};
@@ -8,7 +8,7 @@ ghost use Rattle.reed_solomon_decoder.specs.Decoded.{Decoded};
 
 use crate::elimination::locator;
 use crate::evaluation::{explained, value_at};
-use crate::line::Place;
+use crate::line::{PARITY, Place};
 use crate::search::search;
 use arrayvec::ArrayVec;
 
@@ -23,7 +23,7 @@ pub struct Error {
 pub type Errors = ArrayVec<Error, 7>;
 
 // The errors at these places, as every explanation has them that has errors nowhere else.
-fn errors_at(s: &[u16; 14], found: &[Place]) -> Errors
+fn errors_at(s: &[u16; PARITY], found: &[Place]) -> Errors
     requires few { length found.now ≤ 7 }
     requires differ { Differ (located 528 (indices found.now)) }
     ensures places { places result.items ≡ found.now }
@@ -41,14 +41,10 @@ fn errors_at(s: &[u16; 14], found: &[Place]) -> Errors
 }
 
 // The errors, at most seven, that have these syndromes, if there are such.
-pub fn decode(s: &[u16; 14]) -> Option<Errors>
+pub fn decode(s: &[u16; PARITY]) -> Option<Errors>
     ensures { Decoded s.now result }
 {
     let places = search(&locator(s));
     let errors = errors_at(s, places.as_slice());
-    if explained(s, errors.as_slice()) {
-        Some(errors)
-    } else {
-        None
-    }
+    explained(s, errors.as_slice()).then_some(errors)
 }

@@ -6,22 +6,22 @@ ghost use Rattle.reed_solomon_decoder.specs.Errors.{Agrees, SumsFrom, located};
 ghost use Rattle.reed_solomon_decoder.specs.Listed.{indices, listed};
 
 use crate::errors::Error;
-use crate::line::Place;
-use field::{alpha_power, inverse, product};
+use crate::line::{PARITY, Place};
+use field::{inverse, product};
 
 // Takes the errors at `x` from the first `n` sums.
-fn pull(sums: &mut [u16; 14], x: u16, n: usize)
+fn pull(sums: &mut [u16; PARITY], x: u16, n: usize)
     requires { n < 14 }
     ensures { (j : ℕ) → j < n → slice_index sums.new j ≡ bit_xor (slice_index sums.old (j + 1)) (mul x (slice_index sums.old j)) }
 {
-    // By index: each sum is made in place of itself and the next.
+    // By index: each sum is made of itself and the next.
     for j in 0..n {
         sums[j] = sums[j + 1] ^ product(x, sums[j]);
     }
 }
 
 // The value at the `i`-th of the places: what is left of the sums once the errors at the others are taken from them.
-pub(crate) fn value_at(s: &[u16; 14], places: &[Place], i: usize) -> u16
+pub(crate) fn value_at(s: &[u16; PARITY], places: &[Place], i: usize) -> u16
     requires fits { (i < length places.now) × (length places.now ≤ 7) }
     requires differ { Differ (located 528 (indices places.now)) }
     ensures value { Agrees s.now (located 528 (indices places.now)) (slice_index (located 528 (indices places.now)) i) result }
@@ -53,7 +53,7 @@ fn sum_of_powers(errors: &[Error], j: usize) -> u16
 }
 
 // Whether the errors have these syndromes.
-pub(crate) fn explained(s: &[u16; 14], errors: &[Error]) -> bool
+pub(crate) fn explained(s: &[u16; PARITY], errors: &[Error]) -> bool
     ensures { IsTrue result ↔ SumsFrom 0 s.now (listed errors.now) }
 {
     s.iter()

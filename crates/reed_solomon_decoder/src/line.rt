@@ -7,6 +7,9 @@ use field::alpha_power;
 // How many symbols a line has.
 pub const LINE_LENGTH: usize = 528;
 
+// How many parity symbols a line has, and as many syndromes.
+pub const PARITY: usize = 14;
+
 // The place of a symbol in a line, counted from the first.
 #[derive(Clone, Copy, PartialEq, Eq, Debug)]
 pub struct Place {
@@ -15,7 +18,7 @@ pub struct Place {
 }
 
 impl Place {
-    // The power of α that a polynomial of the line takes at this symbol.
+    // α to the degree of this symbol in the line's polynomial.
     pub(crate) fn locator(self) -> u16
         ensures { result ≡ pow α (527 - self.index) }
     {
@@ -31,7 +34,7 @@ impl Place {
     }
 }
 
-// The first.
+// The first place of a line.
 impl Default for Place {
     ghost is_default = { λ p. p.index ≡ 0 };
 

@@ -31,8 +31,11 @@ impl Model for Power {
 }
 
 impl Power {
-    // How many powers α has, and what is kept for 0.
-    const ZERO: u16 = 1023;
+    // How many powers α has.
+    const ORDER: u16 = 1023;
+
+    // What is kept for 0: one more than any exponent.
+    const ZERO: u16 = Self::ORDER;
 
     // `c` times α to the power `m`.
     fn new(c: u16, m: usize) -> Self
@@ -42,7 +45,7 @@ impl Power {
     {
         match exponent(c) {
             Some(e) => Power {
-                exponent: ((e + m) % 1023) as u16,
+                exponent: ((e + m) % Self::ORDER as usize) as u16,
             },
             None => Power {
                 exponent: Self::ZERO,
@@ -72,7 +75,7 @@ impl Power {
         } else if e >= k {
             e - k
         } else {
-            e + (Self::ZERO - k)
+            e + (Self::ORDER - k)
         };
     }
 }

@@ -1,21 +1,17 @@
 // The TUI of bytes: a level is high, 1, or low, 0.
-ghost use Rattle.std.specs.Prelude.{◌≡◌, ℕ, ◌/◌, ◌%◌, ◌^◌, ◌<◌, length, slice_index};
+ghost use Rattle.std.specs.Prelude.{◌≡◌, ◌<◌, slice_index};
 ghost use Rattle.std.specs.Int.{from_bool};
 ghost use Rattle.signal.specs.Signal.{bits_of};
 
-// Bit k of a number, as a level.
-pub(crate) fn bit_of(number: u16, k: usize) -> bool
-    requires { k < 16 }
-    ensures { from_bool result ≡ number / 2 ^ k % 2 }
-{
-    (number >> k) & 1 == 1
-}
+use training::fields::bit;
 
 // The level of one TUI; past the end it is low.
 pub(crate) fn level_at(bytes: &[u8], place: usize) -> bool
     ensures { from_bool result ≡ slice_index (bits_of bytes.now) place }
 {
-    place / 8 < bytes.len() && bit_of(u16::from(bytes[place / 8]), place % 8)
+    bytes
+        .get(place / 8)
+        .is_some_and(|byte| bit(u16::from(*byte), place % 8))
 }
 
 // The level of one TUI as a number, 0 or 1, as recordings hold it; past the end it is 0.

@@ -1,4 +1,5 @@
-// Reading the pieces of a signal at a place of a recording.
+// Reading the pieces of a signal at a place of a recording. The places and lengths are numbers as in the definitions: a name
+// for each would say no more than the comment of its function.
 ghost use Rattle.std.specs.Prelude.{◌≡◌, ℕ, ◌+◌, ◌-◌, ◌*◌, ◌^◌, ◌<◌, ◌≤◌, length, replicate, MatchBool, MatchOption};
 ghost use Rattle.std.specs.Int.{from_bool};
 ghost use Rattle.signal.specs.Signal.{least_first, Stands, marker, back, IsSeed};
@@ -67,6 +68,7 @@ impl<'a> Recording<'a> {
         ensures { (result < 2048) × Stands (least_first 11 result) (tui self.now) place }
     {
         let mut seed = 0;
+        // Tried with fold: that the seed so far times two fits a u16 stays open, as a fold over `rev` has no bound to give its closure.
         for at in (place..place + 11).rev() {
             seed = seed * 2 + u16::from(self.level_at(at));
         }

@@ -4,9 +4,13 @@ ghost use Rattle.std.specs.Int.{from_bool};
 ghost use Rattle.signal.specs.Signal.{bits_of, cell, cells, field as field_bits, front, pattern, back, signal_length};
 ghost use Rattle.signal.specs.Inner.{level_before};
 
-use crate::line::{bit_of, level_at};
+use crate::line::level_at;
 use crate::writing::SIGNAL_BYTES;
 use std::marker::Model;
+use training::fields::bit;
+
+// How many bits of a pattern are sums of earlier ones: all but the eleven of the seed.
+const SUMS: usize = 4083;
 
 // A signal of which the first `sent` TUI stand in the line. Clauses see those.
 // The line is owned: were it lent, clauses that see the TUI sent would not say what the lent line holds in the end.
@@ -90,7 +94,7 @@ impl Sender {
     {
         // By place: a number has no list of bits to go over.
         for k in (0..16).rev() {
-            self.send_cell(bit_of(field, k));
+            self.send_cell(bit(field, k));
         }
     }
 
@@ -101,7 +105,7 @@ impl Sender {
     {
         // By place, as in a field.
         for k in 0..11 {
-            self.send(bit_of(seed, k));
+            self.send(bit(seed, k));
         }
     }
 
@@ -111,7 +115,7 @@ impl Sender {
         ensures { self.new ≡ self.old ++ pattern seed 4094 }
     {
         self.send_seed(seed);
-        for _ in 11..4094u16 {
+        for _ in 0..SUMS {
             let bit = self.back(9) != self.back(11);
             self.send(bit);
         }

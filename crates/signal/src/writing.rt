@@ -4,7 +4,7 @@ ghost use Rattle.signal.specs.Signal.{bits_of, signal, IsSeed};
 ghost use Rattle.signal.specs.Calls.{Wrote};
 
 use crate::sender::Sender;
-use training::records::{Control, Status};
+use training::records::{Control, Status, Training};
 use training::refusals::TrainingRefusal;
 
 // How many bytes a signal has.
@@ -15,12 +15,12 @@ pub const SEED_MAX: u16 = 2047;
 
 // The bytes of a signal.
 #[tactic(auto, using(crate::proofs::SignalParts::length_front))]
-fn signal_of(control: Control, status: Status, seed: u16) -> [u8; SIGNAL_BYTES]
-    ensures { bits_of result ≡ signal control status seed }
+fn signal_of(training: Training) -> [u8; SIGNAL_BYTES]
+    ensures { bits_of result ≡ signal training.control training.status training.seed }
 {
     let mut sender = Sender::new();
-    sender.send_front(u16::from(control), u16::from(status));
-    sender.send_back(seed);
+    sender.send_front(u16::from(training.control), u16::from(training.status));
+    sender.send_back(training.seed);
     sender.line()
 }
 
@@ -37,6 +37,10 @@ pub fn write(
         return Err(TrainingRefusal::Seed);
     }
     let line = place.as_mut_array().ok_or(TrainingRefusal::Length)?;
-    *line = signal_of(control, status, seed);
+    *line = signal_of(Training {
+        control,
+        status,
+        seed,
+    });
     Ok(())
 }

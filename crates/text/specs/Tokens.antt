@@ -1,6 +1,6 @@
--- For proofs: the columns of each token and of a line of two, and the faults of both.
-use Rattle.std.specs.Prelude.{◌≡◌, ℕ, ◌+◌, ◌<◌, ◌≤◌, Bool, cond, List, [], ◌∷◌, ◌++◌, map, length, take, drop, replicate, Some, None, Ok, Err, codes, Option, Result}
-use Rattle.text.specs.Text.{Column, just, letter, digit, fault}
+-- For proofs: the columns of each token and of a line of two, and the answer of a line.
+use Rattle.std.specs.Prelude.{ℕ, ◌+◌, ◌<◌, ◌≤◌, Bool, cond, List, [], ◌∷◌, ◌++◌, map, length, replicate, Some, None, Ok, Err, codes, Option, Result}
+use Rattle.text.specs.Text.{Column, just, letter, digit}
 use Rattle.text.specs.declared.refusal.Fault.{Fault}
 use Rattle.text.specs.declared.refusal.Fault.TheVariants.{Ended, At}
 use Rattle.text.specs.declared.refusal.TextRefusal.{TextRefusal}
@@ -9,7 +9,6 @@ use Rattle.text.specs.declared.tokens.Name.{Name}
 use Rattle.text.specs.declared.tokens.Name.TheVariants as due
 use Rattle.text.specs.declared.tokens.Token.{Token}
 use Rattle.text.specs.declared.tokens.Token.TheVariants as token
-use Rattle.text.specs.declared.tokens.Part.{Part}
 
 abbrev pub spelled : Name → List ℕ
 spelled due.Head = codes "head"
@@ -25,13 +24,11 @@ token_bytes (token.Name n bytes) = bytes.now
 token_bytes (token.Head bytes) = bytes.now
 token_bytes (token.Body bytes) = bytes.now
 
-abbrev pub token_fault : Part → Option Fault
-token_fault p = fault p.column (token_columns p.token) (token_bytes p.token)
-
--- a token has no more bytes than a body has, and stands within a line
-pub record Short (p : Part) : Type 0 where
-  pub few : length (token_bytes p.token) ≤ 16
-  pub low : p.column < 50
+-- a token has no more bytes than a body has, and stands at column c of a line
+pub record Within (t : Token) (c : ℕ) : Type 0 where
+  pub few : length (token_bytes t) ≤ 16
+  pub from_1 : 1 ≤ c
+  pub low : c < 50
 
 -- the fault of bytes from column c on: the first wrong one, or else the end where they are too few
 abbrev pub fault_at : ℕ → Bool → Option ℕ → Option Fault
@@ -41,13 +38,6 @@ fault_at c few None = cond few (Some Ended) None
 -- two tokens, a space behind the first and a byte 10 behind the second
 abbrev pub line_columns : Token → Token → List Column
 line_columns head body = token_columns head ++ (just 32 ∷ (token_columns body ++ (just 10 ∷ [])))
-
--- the parts are those of the line that the text begins with
-pub record IsLine (text : List ℕ) (head body : Part) : Type 0 where
-  pub head_place : head.column ≡ 1
-  pub head_bytes : token_bytes head.token ≡ take (length (token_columns head.token)) text
-  pub body_place : body.column ≡ length (token_columns head.token) + 2
-  pub body_bytes : token_bytes body.token ≡ take (length (token_columns body.token)) (drop (length (token_columns head.token) + 1) text)
 
 -- the refusal of the names, or of a row
 abbrev pub refusal_at : Option ℕ → Fault → TextRefusal

@@ -74,7 +74,7 @@ impl Refusal for TextRefusal {
 }
 
 impl TextRefusal {
-    // The column.
+    // The column, as the number that is printed.
     pub fn column(&self) -> usize
         ensures { result ≡ column_of self.now }
     {

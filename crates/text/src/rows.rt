@@ -3,7 +3,8 @@ ghost use Rattle.std.specs.Prelude.{◌≡◌, ◌+◌, ◌<◌, [], ◌∷◌, 
 ghost use Rattle.words.specs.Raw.{header as header_of};
 ghost use Rattle.text.specs.Text.{just, fault as first_fault, names_line, row_word, row_answer};
 ghost use Rattle.text.specs.Reading.{seen_row};
-ghost use Rattle.text.specs.Tokens.{IsLine, line_columns, line_answer};
+ghost use Rattle.text.specs.Tokens.{line_columns, line_answer};
+ghost use Rattle.text.specs.Parts.{IsLine};
 
 use crate::digits::value;
 use crate::parts::{behind, front};
@@ -24,25 +25,36 @@ fn mark_fault(line: &[u8], at: usize, mark: u8) -> Option<Fault>
     departure(behind(line, at), &[mark], at + 1)
 }
 
-// The first fault of a line of two tokens.
-fn line_fault(line: &[u8], head: &Part, body: &Part) -> Option<Fault>
-    requires { IsLine line.now head.now body.now }
-    ensures { result ≡ first_fault 1 (line_columns head.now.token body.now.token) line.now }
-{
-    head.fault()
-        .or(mark_fault(line, head.end(), b' '))
-        .or(body.fault())
-        .or(mark_fault(line, body.end(), b'\n'))
+// The line that a text begins with, as its two tokens.
+#[derive(Clone, Copy)]
+struct Line<'a> {
+    text: &'a [u8],
+    head: Part<'a>,
+    body: Part<'a>,
+    ghost parts: { IsLine text.now head body },
 }
 
-// Refuses a line with a fault.
-fn check(line: &[u8], head: &Part, body: &Part) -> Result<(), TextRefusal>
-    requires { IsLine line.now head.now body.now }
-    ensures { result ≡ line_answer head.now.row (first_fault 1 (line_columns head.now.token body.now.token) line.now) }
-{
-    match line_fault(line, head, body) {
-        Some(fault) => Err(head.refusal(fault)),
-        None => Ok(()),
+impl<'a> Line<'a> {
+    // Its first fault.
+    fn fault(&self) -> Option<Fault>
+        ensures { result ≡ first_fault 1 (line_columns self.now.head.token self.now.body.token) self.now.text.now }
+    {
+        self.head
+            .fault()
+            .or(mark_fault(self.text, self.head.end(), b' '))
+            .or(self.body.fault())
+            .or(mark_fault(self.text, self.body.end(), b'\n'))
+    }
+
+    // Refuses it at its fault.
+    fn check(&self) -> Result<(), TextRefusal>
+        ensures { result ≡ line_answer self.now.head.row (first_fault 1 (line_columns self.now.head.token self.now.body.token) self.now.text.now) }
+    {
+        // Tried with map_or: what its closure answers, a call of `refusal`, is not known to the proof.
+        match self.fault() {
+            Some(fault) => Err(self.head.refusal(fault)),
+            None => Ok(()),
+        }
     }
 }
 
@@ -60,7 +72,7 @@ pub(crate) fn names(text: &[u8]) -> Result<(), TextRefusal>
         row: None,
         column: 6,
     };
-    check(text, &head, &body)
+    Line { text, head, body }.check()
 }
 
 // The header that the kind letter says, a number since Word::new takes one.
@@ -88,6 +100,6 @@ pub(crate) fn word(text: &[u8], row: usize) -> Result<Word, TextRefusal>
         row: Some(row),
         column: 3,
     };
-    check(text, &head, &body)?;
+    Line { text, head, body }.check()?;
     Word::new(header(text), value(digits)).map_err(|refusal| TextRefusal::Word { row, refusal })
 }

@@ -1,7 +1,7 @@
 // The tokens of a line: the parts that say something. Each borrows its bytes of the text, fewer where the text ends first.
 ghost use Rattle.std.specs.Prelude.{◌≡◌, ◌+◌, ◌^◌, ◌<◌, ◌≤◌, [], ◌∷◌, map, length, replicate, IfSome};
 ghost use Rattle.text.specs.Text.{just, digit as digit_column, letter, fault as first_fault};
-ghost use Rattle.text.specs.Tokens.{fault_at, spelled, token_columns, token_fault, refusal_at, Short};
+ghost use Rattle.text.specs.Tokens.{fault_at, spelled, token_columns, refusal_at, Within};
 
 use crate::digits::digit;
 use crate::refusal::{Fault, TextRefusal};
@@ -35,6 +35,7 @@ pub struct Part<'a> {
     pub token: Token<'a>,
     pub row: Option<usize>,
     pub column: usize,
+    pub ghost within: { Within token column },
 }
 
 // The byte at `wrong` of a token's bytes is the fault, or else the end, where they are too few.
@@ -59,19 +60,6 @@ pub(crate) fn departure(bytes: &[u8], expected: &[u8], column: usize) -> Option<
     fault_of(wrong, bytes.len() < expected.len(), column)
 }
 
-#[tactic(auto, using(crate::proofs::Faults::fault_spelled))]
-fn name_fault(due: Name, bytes: &[u8], column: usize) -> Option<Fault>
-    requires { column < 50 }
-    ensures { result ≡ first_fault column (map just (spelled due)) bytes.now }
-{
-    match (due, from_utf8(bytes)) {
-        (Name::Head, Ok("head")) => None,
-        (Name::Body, Ok("body")) => None,
-        (Name::Head, _) => departure(bytes, b"head", column),
-        (Name::Body, _) => departure(bytes, b"body", column),
-    }
-}
-
 #[tactic(auto, unfolding(crate::specs::Text::fault))]
 fn head_fault(bytes: &[u8], column: usize) -> Option<Fault>
     ensures { result ≡ first_fault column (letter ∷ []) bytes.now }
@@ -85,32 +73,42 @@ fn head_fault(bytes: &[u8], column: usize) -> Option<Fault>
     }
 }
 
-fn body_fault(bytes: &[u8], column: usize) -> Option<Fault>
-    requires few { length bytes.now ≤ 16 }
-    requires low { column < 50 }
-    ensures { result ≡ first_fault column (replicate 16 digit_column) bytes.now }
-{
-    let wrong = bytes.iter().position(|byte| digit(*byte as char).is_none());
-    fault_of(wrong, bytes.len() < BODY_DIGITS, column)
-}
-
 impl<'a> Part<'a> {
+    ghost use Rattle.text.specs.Parts.{token_fault};
+
+    #[tactic(auto, using(crate::proofs::Faults::fault_spelled))]
+    fn name_fault(&self, due: Name, bytes: &[u8]) -> Option<Fault>
+        ensures { result ≡ first_fault self.now.column (map just (spelled due)) bytes.now }
+    {
+        match (due, from_utf8(bytes)) {
+            (Name::Head, Ok("head")) => None,
+            (Name::Body, Ok("body")) => None,
+            (Name::Head, _) => departure(bytes, b"head", self.column),
+            (Name::Body, _) => departure(bytes, b"body", self.column),
+        }
+    }
+
+    fn body_fault(&self, bytes: &[u8]) -> Option<Fault>
+        requires { length bytes.now ≤ 16 }
+        ensures { result ≡ first_fault self.now.column (replicate 16 digit_column) bytes.now }
+    {
+        let wrong = bytes.iter().position(|byte| digit(*byte as char).is_none());
+        fault_of(wrong, bytes.len() < BODY_DIGITS, self.column)
+    }
+
     // The first fault of the token.
     pub(crate) fn fault(&self) -> Option<Fault>
-        requires { Short self.now }
         ensures { result ≡ token_fault self.now }
     {
         match self.token {
-            Token::Name(due, bytes) => name_fault(due, bytes, self.column),
+            Token::Name(due, bytes) => self.name_fault(due, bytes),
             Token::Head(bytes) => head_fault(bytes, self.column),
-            Token::Body(bytes) => body_fault(bytes, self.column),
+            Token::Body(bytes) => self.body_fault(bytes),
         }
     }
 
     // How many bytes of the line stand before what is behind the token.
     pub(crate) fn end(&self) -> usize
-        requires from_1 { 1 ≤ self.now.column }
-        requires low { self.now.column < 50 }
         ensures { result + 1 ≡ self.now.column + length (token_columns self.now.token) }
     {
         let width = match self.token {

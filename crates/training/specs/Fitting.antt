@@ -1,4 +1,4 @@
--- For proofs: each part of a field fits its bits. The laws of `TwoBits` cite these.
+-- For proofs: each part of a field fits its bits. The laws of `TwoBits` cite those of updates and states.
 use Rattle.std.proofs.Common.{◌<◌, Bool, true, false, arith}
 use Rattle.training.specs.declared.records.Mark.{Mark}
 use Rattle.training.specs.declared.records.Mark.TheVariants.{Gfc16, Gfc32}

@@ -1,5 +1,5 @@
 // Making control and status records from numbers, and the sixteen bits of each as a field carries them.
-ghost use Rattle.std.specs.Prelude.{◌≡◌, ◌/◌, ◌%◌, ◌^◌, ◌<◌, MatchResult};
+ghost use Rattle.std.specs.Prelude.{◌≡◌, ◌/◌, ◌%◌, ◌^◌, MatchResult};
 ghost use Rattle.training.specs.Numbers.{IsMark, IsUpdate, IsState, Names};
 ghost use Rattle.training.specs.Making.{ControlFrom, StatusFrom};
 ghost use Rattle.std.specs.Int.{from_bool};
@@ -8,12 +8,11 @@ ghost use Rattle.training.specs.Fields.{control_number, status_number};
 use crate::records::{Coefficients, Control, Mark, Status};
 use crate::refusals::{TrainingRefusal, UnknownNumber};
 
-// Whether the bit at a place of a field is set.
-fn bit(field: u16, place: u32) -> bool
-    requires { place < 16 }
-    ensures { from_bool result ≡ field / 2 ^ place % 2 }
+// Whether the bit at a place of a number is set; past bit 15 none is.
+pub fn bit(number: u16, place: usize) -> bool
+    ensures { from_bool result ≡ number / 2 ^ place % 2 }
 {
-    (field >> place) & 1 == 1
+    place < 16 && (number >> place) & 1 == 1
 }
 
 impl Control {

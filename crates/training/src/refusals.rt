@@ -42,7 +42,7 @@ pub enum TrainingRefusal {
     NothingFound { place: usize },
 }
 
-// What a call answers that was given such a number.
+// What a call answers that was given a number of no mark, update or state.
 impl From<UnknownNumber> for TrainingRefusal {
     ghost from_gives = { λ _ r. r ≡ Values };
 

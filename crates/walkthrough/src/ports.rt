@@ -57,7 +57,7 @@ fn walk<C: Code + Drop>(
 ) -> anyhow::Result<()> {
     let (n, t) = (code.n(), code.t());
     println!(rt; "A port over {name}, n {n}, t {t}, opened on zeros:")?;
-    let mut port = Port::open(code, Totals::default())?;
+    let mut port = Port::new(code);
     print_totals(rt, &port)?;
     for wrong in [0usize, 7, 8] {
         carry(rt, &mut port, line, wrong)?;
@@ -67,7 +67,7 @@ fn walk<C: Code + Drop>(
 
 // A number that is no symbol changes nothing at all.
 fn show_no_symbol(rt: &HostRuntime) -> anyhow::Result<()> {
-    let mut port = Port::open(Scrambled { inner: Bare }, Totals::default())?;
+    let mut port = Port::new(Scrambled { inner: Bare });
     let mut words = eighty()?;
     let mut line = [0u16; 514];
     port.write(&words, &mut line)?;

@@ -41,7 +41,7 @@ pub fn is_listed(type_byte: u8) -> bool
 const HIGHS: [u8; 16] = [0, 0xE, 0xD, 3, 0xB, 5, 6, 8, 7, 9, 0xA, 4, 0xC, 2, 1, 0xF];
 
 // The high nibble of the type whose low nibble is that of `low`; 0 where no type has it.
-// No Option: callers have it as a function that always answers, and the one low nibble with no type is 0.
+// No Option: the function is public and may not begin to answer none. 0 stands for the one low nibble without a type.
 pub fn high_nibble(low: u8) -> u8
     ensures { result ≡ high (low % 16) }
 {

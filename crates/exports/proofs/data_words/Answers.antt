@@ -1,11 +1,12 @@
 -- Each word is that of the body at its index.
-use Rattle.std.proofs.Common.{arith, rules, tests, slice_index}
+use Rattle.std.proofs.Common.{◌≡◌, ℕ, arith, rules, tests, slice_index}
+use Rattle.words.specs.declared.word.Word.{Word}
 use Rattle.words.specs.declared.word.Word.TheVariants.{Data}
-use Rattle.exports.proofs.FromFn.{made_at}
+use Rattle.code.proofs.FromFn.{filled_from}
 use Rattle.exports.proofs.data_words.Goals as goal
 
 pub returns : goal.returns
 returns c = record {
   count = c.from_fn.ensures.items.long;
-  each = λ k h. made_at _ (λ j. Data (slice_index c.args.bodies.now j)) _ c.from_fn.result (λ j y q w. search (rules, tests)) 80 0 c.from_fn.ensures.items.each k (Data 0) (omega arith) (omega arith);
+  each = λ k h. filled_from (λ (j : ℕ) (y : Word). y ≡ Data (slice_index c.args.bodies.now j)) (λ j y q w. search (rules, tests)) c.from_fn.result 0 80 k (Data 0) c.from_fn.ensures.items.each (omega arith) (omega arith);
 }

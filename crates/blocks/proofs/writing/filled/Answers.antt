@@ -1,55 +1,51 @@
-use Rattle.std.proofs.Common.{◌≡◌, ℕ, ◌+◌, ◌^◌, ◌<◌, List, [], ◌∷◌, length, get_or, take, drop, set, sym, ap, ◌∙◌, arith, length-set}
-use Rattle.std.proofs.lemmas.List.{drop_more, take_more, take_all, drop_all, map-append, length-map}
-use Rattle.words.specs.Raw.{Raw, AllValid}
-use Rattle.blocks.specs.Numbers.{block}
+use Rattle.std.proofs.Common.{◌≡◌, ℕ, ◌+◌, ◌*◌, ◌^◌, ◌<◌, Bool, true, false, List, [], ◌∷◌, length, get_or, refl, sym, ap, ◌∙◌, arith}
+use Rattle.words.specs.Raw.{AllValid}
 use Rattle.words.specs.Words.{raw, raws}
 use Rattle.words.specs.declared.word.Word.{Word}
-use Rattle.blocks.specs.Packed.{onto, packed}
-use Rattle.blocks.specs.Filling.{with_rest}
+use Rattle.blocks.specs.Numbers.{block}
+use Rattle.blocks.specs.Packed.{packed}
+use Rattle.blocks.specs.Filling.{Put, Opened, with_rest, above}
 use Rattle.blocks.specs.declared.writing.Writer.{Writer}
-use Rattle.blocks.proofs.Packing.{fill, filled, valid_push}
 use Rattle.blocks.proofs.Bounds.{block_lt}
 use Rattle.blocks.proofs.writing.filled.Goals as goal
 
-valid_more : (ws : List Word) (j : ℕ) (w : Word) → j < length ws → AllValid (raws (take j ws)) → AllValid (raw (get_or ws j w) ∷ []) → AllValid (raws (take (j + 1) ws))
-valid_more ws j w h v u = rw (take_more ws j w h, map-append raw (take j ws) (get_or ws j w ∷ [])) (valid_push (raws (take j ws)) (raw (get_or ws j w)) v u.0)
-
-rest_more : (ws : List Word) (j : ℕ) (w : Word) → j < length ws → raws (drop j ws) ≡ raw (get_or ws j w) ∷ raws (drop (j + 1) ws)
-rest_more ws j w h = ap raws (drop_more ws j w h)
-
-pub loop-j-preserved : goal.loop-j-preserved
-loop-j-preserved c =
-    let inv = c.loop-j.invariant in
-    let ws = c.args.words.now in
-    let lt : c.loop-j.j < length ws = omega arith in
-    let w = c.index-words-j.result in
-    let e = ap (λ (r : List Raw). onto 64 (take c.loop-j.j c.loop-j.limbs) (with_rest c.loop-j.writer r)) (sym (rest_more ws c.loop-j.j w lt)) ∙ inv.holds in
-    record {
-      long = rw length-set inv.long;
-      holds = fill c.loop-j.limbs c.loop-j.j c.put.result (block (raws ws)) c.loop-j.writer c.put.new.self (raw (get_or ws c.loop-j.j w)) (raws (drop (c.loop-j.j + 1) ws)) (omega arith) e c.put.ensures;
-      valid = valid_more ws c.loop-j.j w lt inv.valid (c.put.ensures.valid, tt);
-    }
-
-record Done (ws : List Word) (limbs : List ℕ) : Type 0 where
-  meaning : packed 64 limbs ≡ block (raws ws)
+record Done (ws : List Word) (x : ℕ) : Type 0 where
+  meaning : x ≡ block (raws ws)
   valid : AllValid (raws ws)
-  narrow : packed 64 limbs < 2 ^ 257
+  narrow : x < 2 ^ 257
 
-done : (ws : List Word) (limbs : List ℕ) (j : ℕ) (writer : Writer) → j ≡ 4 → length ws ≡ 4 → length limbs ≡ 5
-    → onto 64 (take j limbs) (with_rest writer (raws (drop j ws))) ≡ block (raws ws) → AllValid (raws (take j ws)) → Done ws (set limbs 4 writer.acc)
-done ws limbs j writer j4 n n5 e v =
-    let a = rw (take_all 4 ws (omega arith)) at (rw j4 at v) in
-    let m = filled limbs writer (block (raws ws)) n5 (rw (drop_all 4 ws (omega arith)) at (rw j4 at e)) in
-    let n' : length (raws ws) ≡ 4 = length-map ws raw ∙ n in
-    record { meaning = m; valid = a; narrow = rw m (block_lt (raws ws) n' a) }
+none_above : (cutting : Bool) → 0 ≡ above cutting []
+none_above true = refl
+none_above false = refl
+
+-- a limb is the lowest of what stands from it on
+more : (limb high from to : ℕ) → high ≡ to → from ≡ limb + 2 ^ 64 * to → limb + 2 ^ 64 * high ≡ from
+more limb high from to e p = ap (λ (y : ℕ). limb + 2 ^ 64 * y) e ∙ sym p
+
+done : (ws : List Word) (e f g h : Word) (w₀ w₁ w₂ w₃ w₄ : Writer) (a b c d : ℕ) → length ws ≡ 4 → Opened (raws ws) w₀
+    → Put (raw (get_or ws 0 e)) w₀ a w₁ → Put (raw (get_or ws 1 f)) w₁ b w₂ → Put (raw (get_or ws 2 g)) w₂ c w₃ → Put (raw (get_or ws 3 h)) w₃ d w₄
+    → Done ws (packed 64 (a ∷ b ∷ c ∷ d ∷ w₄.acc ∷ []))
+done [] e f g h w₀ w₁ w₂ w₃ w₄ a b c d n o p q r s = absurd (omega arith)
+done (i ∷ []) e f g h w₀ w₁ w₂ w₃ w₄ a b c d n o p q r s = absurd (omega arith)
+done (i ∷ j ∷ []) e f g h w₀ w₁ w₂ w₃ w₄ a b c d n o p q r s = absurd (omega arith)
+done (i ∷ j ∷ k ∷ []) e f g h w₀ w₁ w₂ w₃ w₄ a b c d n o p q r s = absurd (omega arith)
+done (i ∷ j ∷ k ∷ l ∷ m ∷ ms) e f g h w₀ w₁ w₂ w₃ w₄ a b c d n o p q r s = absurd (omega arith)
+done (i ∷ j ∷ k ∷ l ∷ []) e f g h w₀ w₁ w₂ w₃ w₄ a b c d n o p q r s =
+    let ws = raws (i ∷ j ∷ k ∷ l ∷ []) in
+    let end : packed 64 (w₄.acc ∷ []) ≡ with_rest w₄ [] = ap (λ (y : ℕ). w₄.acc + y) (none_above w₄.cutting) in
+    let x₃ = more d _ _ _ end (s.places []) in
+    let x₂ = more c _ _ _ x₃ (r.places (raw l ∷ [])) in
+    let x₁ = more b _ _ _ x₂ (q.places (raw k ∷ raw l ∷ [])) in
+    let x₀ = more a _ _ _ x₁ (p.places (raw j ∷ raw k ∷ raw l ∷ [])) in
+    let is : packed 64 (a ∷ b ∷ c ∷ d ∷ w₄.acc ∷ []) ≡ block ws = x₀ ∙ o in
+    let v : AllValid ws = (p.valid, (q.valid, (r.valid, (s.valid, tt)))) in
+    record { meaning = is; valid = v; narrow = rw is (block_lt ws refl v) }
 
 pub invariant_of-result : goal.invariant_of-result
 invariant_of-result c =
-    let inv = c.loop-j.invariant in
-    record { narrow = (done c.args.words.now c.loop-j.limbs c.loop-j.j c.loop-j.writer (omega arith) (omega arith) inv.long inv.holds inv.valid).narrow }
+    record { narrow = (done c.args.words.now _ _ _ _ _ _ _ _ _ _ _ _ _ (omega arith) c.new-writer.ensures c.put.ensures c.put-2.ensures c.put-3.ensures c.put-4.ensures).narrow }
 
 pub returns : goal.returns
 returns c =
-    let inv = c.loop-j.invariant in
-    let d = done c.args.words.now c.loop-j.limbs c.loop-j.j c.loop-j.writer (omega arith) (omega arith) inv.long inv.holds inv.valid in
+    let d = done c.args.words.now _ _ _ _ _ _ _ _ _ _ _ _ _ (omega arith) c.new-writer.ensures c.put.ensures c.put-2.ensures c.put-3.ensures c.put-4.ensures in
     record { value = d.meaning; valid = d.valid }

@@ -18,9 +18,10 @@ pub loop-four-init : goal.loop-four-init
 loop-four-init c =
     let h = c.new-writer.ensures in
     let n : length c.args.words.now / 4 ≡ 20 = omega arith in
+    let room : length c.args.out.now ≡ 514 = omega arith in
     record {
       same = refl;
-      long = ap length h.out ∙ c.requires;
+      long = ap length h.out ∙ room;
       whole = omega arith;
       written = omega (arith, h.at, h.fill);
       small = rw h.at (λ k l. absurd (omega arith));

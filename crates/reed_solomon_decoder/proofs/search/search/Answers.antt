@@ -23,8 +23,8 @@ push-requires c =
     let ps : List ℕ = indices c.loop-index.places.items in
     let s : ℕ = c.loop-index.index in
     let room : length ps < 7 =
-    free 528 7 c.args.u.now ps s c.loop-index-test.true c.loop-index.invariant.0 (lit≤ tt) c.requires.symbols c.told-u c.requires.nonzero
-    (sym (sum_is 528 c.args.u.now c.loop-index.terms s c.loop-index-test.true c.requires.symbols c.loop-index.invariant.3 (c.loop-index.invariant.2 ∙ sym c.told-u) c.loop-index.invariant.1)
+    free 528 7 c.args.u.now ps s (omega arith) c.loop-index.invariant.0 (lit≤ tt) c.requires.symbols c.told-u c.requires.nonzero
+    (sym (sum_is 528 c.args.u.now c.loop-index.terms s (omega arith) c.requires.symbols c.loop-index.invariant.3 (c.loop-index.invariant.2 ∙ sym c.told-u) c.loop-index.invariant.1)
     ∙ sym c.sum.ensures ∙ c.if-sum-eq0.true) in
     (lit< tt, omega (arith, length-map c.loop-index.places.items (λ (p : Place). p.index)))
 
@@ -34,17 +34,17 @@ loop-index-preserved c =
     let ps : List ℕ = indices c.loop-index.places.items in
     let s : ℕ = c.loop-index.index in
     let is : sum_of c.loop-index.terms ≡ value (pow 2 (527 - s)) u =
-    sum_is 528 u c.loop-index.terms s c.loop-index-test.true c.requires.symbols c.loop-index.invariant.3 (c.loop-index.invariant.2 ∙ sym c.told-u) c.loop-index.invariant.1 in
+    sum_is 528 u c.loop-index.terms s (omega arith) c.requires.symbols c.loop-index.invariant.3 (c.loop-index.invariant.2 ∙ sym c.told-u) c.loop-index.invariant.1 in
     let found : located 528 (indices c.if-sum-eq0.places.items) ++ roots_below u (528 - (s + 1)) ≡ roots_below u 528 =
     elim c.if-sum-eq0.branch [
       | then-sum-eq0 w ↦
           let more : indices c.if-sum-eq0.places.items ≡ ps ++ s ∷ [] =
           ap (λ (v : ArrayVec Place). indices v.items) w.places-is ∙ ap indices w.push.ensures.items ∙ map-append (λ (p : Place). p.index) c.loop-index.places.items _ in
           ap (λ (l : List ℕ). located 528 l ++ roots_below u (528 - (s + 1))) more
-          ∙ turned_yes 528 7 u ps s c.loop-index-test.true c.loop-index.invariant.0 (sym is ∙ sym c.sum.ensures ∙ w.if-sum-eq0.true)
+          ∙ turned_yes 528 7 u ps s (omega arith) c.loop-index.invariant.0 (sym is ∙ sym c.sum.ensures ∙ w.if-sum-eq0.true)
       | else-sum-eq0 w ↦
           ap (λ (v : ArrayVec Place). located 528 (indices v.items) ++ roots_below u (528 - (s + 1))) w.places-is
-          ∙ turned_no 528 7 u ps s c.loop-index-test.true c.loop-index.invariant.0 (λ z. w.if-sum-eq0.false (c.sum.ensures ∙ is ∙ z))
+          ∙ turned_no 528 7 u ps s (omega arith) c.loop-index.invariant.0 (λ z. w.if-sum-eq0.false (c.sum.ensures ∙ is ∙ z))
     ] in
     let up : 528 - c.loop-index.index ≡ suc (527 - c.loop-index.index) = omega arith in
     let next : 527 - c.loop-index.index ≡ 528 - (c.loop-index.index + 1) = omega arith in (

@@ -4,12 +4,12 @@ use native.Mathlib.Decide.{dec_lt}
 use Rattle.std.proofs.lemmas.List.{get_or_past}
 use Rattle.field.specs.Field.{mul, pow}
 use Rattle.reed_solomon_decoder.proofs.Exponents.{lowered_start}
-use Rattle.reed_solomon_decoder.proofs.Filled.{filled_from}
+use Rattle.code.proofs.FromFn.{filled_from}
 use Rattle.reed_solomon_decoder.proofs.search.start.Goals as goal
 
 made : (c : goal.After-from_fn) (k : ℕ) → k < 8 → (get_or c.from_fn.result k 0 ≡ mul (get_or c.args.u.now k 0) (pow 2 (527 * k))) × (get_or c.from_fn.result k 0 < 1024)
 made c k h =
-    filled_from _ _ (λ (i t : ℕ). (t ≡ mul (get_or c.args.u.now i 0) (pow 2 (527 * i))) × (t < 1024)) (λ i y q e. search rules)
+    filled_from (λ (i t : ℕ). (t ≡ mul (get_or c.args.u.now i 0) (pow 2 (527 * i))) × (t < 1024)) (λ i y q e. search rules)
     c.from_fn.result 0 8 k 0 c.from_fn.ensures.items.each (omega arith) (omega arith)
 
 pub returns : goal.returns

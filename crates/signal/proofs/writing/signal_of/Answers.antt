@@ -8,17 +8,17 @@ use Rattle.signal.proofs.writing.signal_of.Goals as goal
 pub returns : goal.returns
 unfolding signal
 returns c =
-    c.line.ensures ∙ c.send_back.ensures ∙ ap (λ (l : List ℕ). l ++ back c.args.seed) c.send_front.ensures
-    ∙ ap (λ (n : ℕ). front n c.from-2.result ++ back c.args.seed) c.from.ensures
-    ∙ ap (λ (n : ℕ). front (control_number c.args.control) n ++ back c.args.seed) c.from-2.ensures
+    c.line.ensures ∙ c.send_back.ensures ∙ ap (λ (l : List ℕ). l ++ back c.args.training.seed) c.send_front.ensures
+    ∙ ap (λ (n : ℕ). front n c.from-2.result ++ back c.args.training.seed) c.from.ensures
+    ∙ ap (λ (n : ℕ). front (control_number c.args.training.control) n ++ back c.args.training.seed) c.from-2.ensures
 
 pub line-requires : goal.line-requires
 line-requires c =
     omega (
       arith,
       ap length c.send_back.ensures,
-      length-append c.send_front.new.self (back c.args.seed),
-      length_back c.args.seed,
+      length-append c.send_front.new.self (back c.args.training.seed),
+      length_back c.args.training.seed,
       ap length c.send_front.ensures,
       length_front c.from.result c.from-2.result,
     )

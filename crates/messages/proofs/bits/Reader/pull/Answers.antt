@@ -1,5 +1,4 @@
-use Rattle.std.proofs.Common.{◌≡◌, ◌-◌, ◌/◌, ◌%◌, ◌^◌, ◌<◌, length, take, drop, ap, ◌∙◌, arith}
-use Rattle.std.proofs.lemmas.List.{take_all, length-drop}
+use Rattle.std.proofs.Common.{◌≡◌, ℕ, List, get_or, sym, ◌/◌, ◌%◌, ◌^◌, ◌<◌, length, drop, ap, ◌∙◌, arith}
 use Rattle.blocks.specs.Packed.{packed}
 use Rattle.messages.specs.Readers.{Ahead}
 use Rattle.messages.proofs.Pulls.{small_rest, drawn, mask, low_bits, high_bits, held_after}
@@ -12,9 +11,11 @@ loop-self-preserved c =
     let xs = now.symbols.now in
     let count = ap (λ (a : Ahead). a.count) inv.same in
     let some : 0 < length xs = omega (arith, count) in
-    let is : take (length xs - 1) (drop 1 xs) ≡ drop 1 xs = take_all (length xs - 1) (drop 1 xs) (omega (arith, length-drop 1 xs)) in
+    let split = rw c.unwrap.ensures at c.split_first.ensures.cases in
+    let head : get_or xs 0 0 ≡ c.unwrap.result.0.now = ap (λ (ys : List ℕ). get_or ys 0 0) split.0 in
+    let is : c.unwrap.result.1.now ≡ drop 1 xs = sym (ap (λ (ys : List ℕ). drop 1 ys) split.0) in
     let d = drawn now.acc now.fill xs _ is (omega arith) some (inv.small 0 some) inv.held in
-    record { held = d.0; few = omega arith; small = small_rest now.acc now.fill xs _ is inv.small; same = d.1 ∙ inv.same }
+    record { held = rw head at d.0; few = omega arith; small = small_rest now.acc now.fill xs _ is inv.small; same = (rw head at d.1) ∙ inv.same }
 
 pub invariant_of-self : goal.invariant_of-self
 invariant_of-self c =

@@ -19,10 +19,10 @@ loop-k-preserved c =
     let was = c.loop-k.self in
     let base = c.args.self.now in
     let x = c.args.field in
-    let bit = from_bool c.bit_of.result in
+    let bit = from_bool c.bit.result in
     let long = ap length c.send_cell.ensures ∙ length-append was _ ∙ ap (λ (n : ℕ). length was + n) (length_cell (level_before was (length was)) bit) in
     let place : k - 1 ≡ 15 - (16 - k) = omega arith in
-    let here : bit ≡ x / 2 ^ (15 - (16 - k)) % 2 = c.bit_of.ensures ∙ ap (λ (j : ℕ). x / 2 ^ j % 2) place in
+    let here : bit ≡ x / 2 ^ (15 - (16 - k)) % 2 = c.bit.ensures ∙ ap (λ (j : ℕ). x / 2 ^ j % 2) place in
     let next : 16 - k + 1 ≡ 16 - (k - 1) = omega arith in
     let before = c.loop-k.invariant.0 in (
       omega arith,

@@ -15,7 +15,7 @@ loop-init c =
 
 pub loop-preserved : goal.loop-preserved
 loop-preserved c =
-    let k = c.loop.counter in
+    let k = c.loop.counter + 11 in
     let was = c.loop.self in
     let seed = c.args.seed in
     let bits = pattern seed k in
@@ -28,4 +28,5 @@ loop-preserved c =
     ∙ ap (λ (y : ℕ). (y + b) % 2) nine ∙ ap (λ (y : ℕ). (get_or bits (k - 9) 0 + y) % 2) eleven ∙ sym (next_later seed k bits (omega arith)) in
     let long = ap length c.send.ensures ∙ length_push was _ in
     let before = c.loop.invariant.0 in
-    (omega arith, sent_bit was c.send.new.self c.args.self.now k seed _ inv c.send.ensures next)
+    let turns : c.loop.counter + 1 + 11 ≡ k + 1 = omega arith in
+    (omega arith, rw turns (sent_bit was c.send.new.self c.args.self.now k seed _ inv c.send.ensures next))

@@ -15,10 +15,10 @@ pub loop-k-preserved : goal.loop-k-preserved
 loop-k-preserved c =
     let k = c.loop-k.k in
     let was = c.loop-k.self in
-    let bit = from_bool c.bit_of.result in
+    let bit = from_bool c.bit.result in
     let long = ap length c.send.ensures ∙ length_push was bit in
     let before = c.loop-k.invariant.0 in (
       omega arith,
       sent_bit was c.send.new.self c.args.self.now k c.args.seed bit c.loop-k.invariant.1 c.send.ensures
-          (c.bit_of.ensures ∙ sym (next_early c.args.seed k (pattern c.args.seed k) (omega arith))),
+          (c.bit.ensures ∙ sym (next_early c.args.seed k (pattern c.args.seed k) (omega arith))),
     )

@@ -5,7 +5,7 @@ use denote.Param.Members.{Mut, Called}
 use Rattle.std.specs.Array.{IsFromFnResultFrom}
 
 -- what the closure's answer for an index is, the element at that index is
-module _ {F Y : Type 0} (g : Mut F (ℕ × Unit {0}) Y) (f : F) (P : ℕ → Y → Type 0) (acts : (i : ℕ) (y : Y) (q : F) → Called g f (i, tt) y q → (q ≡ f) × P i y) where
+module _ {F Y : Type 0} {g : Mut F (ℕ × Unit {0}) Y} {f : F} (P : ℕ → Y → Type 0) (acts : (i : ℕ) (y : Y) (q : F) → Called g f (i, tt) y q → (q ≡ f) × P i y) where
   pub filled_from : (ys : List Y) (i n k : ℕ) (d : Y) → IsFromFnResultFrom g f ys i n → i ≤ k → k < i + n → P k (get_or ys k d)
   filled_from ys i zero k d made low high = absurd (omega arith)
   filled_from ys i (suc n) k d made low high =

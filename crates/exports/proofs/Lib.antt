@@ -1,2 +1,0 @@
--- Lemmas on arrays.
-pub mod FromFn
