@@ -31,7 +31,7 @@ impl Model for Power {
 }
 
 impl Power {
-    // How many powers α has.
+    // How many powers α has: an exponent here, an index of its table in the field, which keeps its own.
     const ORDER: u16 = 1023;
 
     // What is kept for 0: one more than any exponent.
