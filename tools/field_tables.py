@@ -28,7 +28,7 @@ def listed(name, entries):
 if sys.argv[1] == "code":
     print("// The powers of α and their exponents, as tools/field_tables.py prints them.")
     print(code("Entry i is α to the power i.", "POWERS", powers))
-    print(code("Entry a is the exponent below 1,023 whose power of α is a; that of 0 is not used.", "LOGS", logs))
+    print(code("Entry a is the exponent below 1,023 whose power of α is a; that of 0 is not used, and keeps each element its own index.", "LOGS", logs))
 else:
     print("-- The tables of the code as lists, as tools/field_tables.py prints them.")
     print("use Rattle.std.proofs.Common.{ℕ, List, [], ◌∷◌}")

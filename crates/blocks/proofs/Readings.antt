@@ -34,7 +34,7 @@ pub lowest : (xs : List ℕ) → length xs ≡ 5 → packed 64 xs ≡ get_or xs 
 lowest [] n = absurd (omega arith)
 lowest (x ∷ xs) n = let t = take_all 4 xs (omega arith) in rw t refl
 
-limbs_more : (xs : List ℕ) (i : ℕ) → i < length xs → packed 64 (drop i xs) ≡ get_or xs i 0 + 2 ^ 64 * packed 64 (drop (i + 1) xs)
+pub limbs_more : (xs : List ℕ) (i : ℕ) → i < length xs → packed 64 (drop i xs) ≡ get_or xs i 0 + 2 ^ 64 * packed 64 (drop (i + 1) xs)
 limbs_more xs i h = ap (packed 64) (drop_more xs i 0 h)
 
 widen : (cutting : Bool) (acc limb more : ℕ) → acc + room cutting * (limb + 2 ^ 64 * more) ≡ acc + room cutting * limb + 2 ^ 64 * room cutting * more

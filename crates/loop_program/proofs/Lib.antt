@@ -1,2 +1,2 @@
--- Lemmas on the input.
-pub mod Inputs
+-- Lemmas on the place for the text.
+pub mod Filling

@@ -12,7 +12,7 @@ use Rattle.symbols.specs.Symbols.{Symbols}
 use Rattle.messages.specs.Writers.{count, under, Pushed}
 use Rattle.messages.specs.declared.bits.Writer.{Writer}
 
-message_more : (n : ℕ) (ws : List Word) → message (suc n) (raws ws) ≡ block (raws (take 4 ws)) + 2 ^ 257 * message n (raws (drop 4 ws))
+pub message_more : (n : ℕ) (ws : List Word) → message (suc n) (raws ws) ≡ block (raws (take 4 ws)) + 2 ^ 257 * message n (raws (drop 4 ws))
 unfolding message
 message_more n ws = rw (take-map raw 4 ws, drop-map raw 4 ws)
 

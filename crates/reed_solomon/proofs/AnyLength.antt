@@ -1,5 +1,5 @@
--- Errors taken from a line one after the other, at any length of line below the order of α and over lists of places and
--- values; the code's lists of errors are those of a line of 528.
+-- Errors taken from a line one after the other, at any length of line below the order of α and over any lists of places and
+-- values; `Correcting` has the same over the code's lists of errors.
 use Rattle.std.proofs.Common.{◌≡◌, ℕ, ◌+◌, ◌-◌, ◌<◌, ◌≤◌, ◌≢◌, List, [], ◌∷◌, length, get_or, drop, set, sym, refl, ap, ◌∙◌, subst, ap₂}
 use lib.Bits.{bit_xor}
 use Rattle.std.proofs.lemmas.List.{drop_more, drop_all}

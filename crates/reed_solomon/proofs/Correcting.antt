@@ -1,5 +1,5 @@
 -- A line with errors taken from it: its length, its symbols, its power sums, and one error taken after the other.
-use Rattle.std.proofs.Common.{◌≡◌, ℕ, zero, suc, ◌+◌, ◌-◌, ◌<◌, ◌≤◌, Bool, true, false, cond, eqb, ◌≢◌, List, [], ◌∷◌, length, get_or, drop, set, sym, refl, ap, ◌∙◌, subst, ap₂, le_of_suc-le-suc, not-suc-le-zero, zero-add, arith, lit≤}
+use Rattle.std.proofs.Common.{◌≡◌, ℕ, zero, suc, ◌+◌, ◌-◌, ◌<◌, ◌≤◌, Bool, true, false, cond, eqb, ◌≢◌, List, [], ◌∷◌, length, get_or, drop, set, sym, refl, ap, ◌∙◌, subst, ap₂, le_of_suc-le-suc, not-suc-le-zero, zero-add, arith}
 use lib.Bits.{bit_xor, xor_assoc, xor_self, xor_zero_r, xor_lt}
 use Rattle.std.proofs.lemmas.List.{drop_more, drop_all}
 use Rattle.code.specs.Distance.{distance}
@@ -10,7 +10,7 @@ use Rattle.reed_solomon_algebra.specs.Polynomials.{Elements}
 use Rattle.reed_solomon_algebra.specs.Terms.{Term, power_sum, Small, Apart, Distinct, Away, Differ, locators, terms}
 use Rattle.reed_solomon_algebra.proofs.Locators.{locators_length, locators_at, locators_differ}
 use Rattle.reed_solomon_decoder.specs.Errors.{at}
-use Rattle.reed_solomon_decoder.specs.Listed.{listed}
+use Rattle.reed_solomon_decoder.specs.Listed.{listed_in}
 use Rattle.reed_solomon_decoder.specs.declared.errors.Error.{Error}
 use Rattle.reed_solomon_decoder.proofs.Places.{eq_true, eq_false}
 use Rattle.reed_solomon_decoder.proofs.Values.{at_lt}
@@ -131,46 +131,48 @@ corrected_none (l ∷ ls) (x ∷ xs) = ap₂ (λ (y : ℕ) (r : List ℕ). y ∷
 
 -- ---- a turn of the correction
 
--- an error at its place, as a term at a locator
-abbrev pub as_term : Error → Term
-as_term e = record { coef = e.value; place = pow 2 (527 - e.place.index) }
+-- an error at its place in a line of n symbols, as a term at a locator
+abbrev pub as_term : ℕ → Error → Term
+as_term n e = record { coef = e.value; place = pow 2 (n - 1 - e.place.index) }
 
-pub listed_more : (es : List Error) (k : ℕ) (e : Error) → k < length es → e ≡ get_or es k e → listed (drop k es) ≡ as_term e ∷ listed (drop (k + 1) es)
-listed_more es k e h is = ap listed (drop_more es k e h) ∙ ap (λ (d : Error). as_term d ∷ listed (drop (k + 1) es)) (sym is)
+pub listed_more : (n : ℕ) (es : List Error) (k : ℕ) (e : Error) → k < length es → e ≡ get_or es k e
+    → listed_in n (drop k es) ≡ as_term n e ∷ listed_in n (drop (k + 1) es)
+listed_more n es k e h is = ap (listed_in n) (drop_more es k e h) ∙ ap (λ (d : Error). as_term n d ∷ listed_in n (drop (k + 1) es)) (sym is)
 
--- the errors before the k-th are taken from the line already: a turn for the k-th, which is e
-module _ (es : List Error) (k : ℕ) (e : Error) (h : k < length es) (is : e ≡ get_or es k e) where
-  first_place : get_or (locators 528) e.place.index 0 ≡ pow 2 (527 - e.place.index)
-  first_place = locators_at 528 e.place.index e.place.within
+-- the errors before the k-th are taken from the line already: a turn for the k-th, which is e, at any length of the line below
+-- the order of α
+module _ (n : ℕ) (es : List Error) (k : ℕ) (e : Error) (h : k < length es) (is : e ≡ get_or es k e) (short : n ≤ 1023) (here : e.place.index < n) where
+  first_place : get_or (locators n) e.place.index 0 ≡ pow 2 (n - 1 - e.place.index)
+  first_place = locators_at n e.place.index here
 
-  inside : e.place.index < length (locators 528)
-  inside = subst (λ (m : ℕ). e.place.index < m) (sym (locators_length 528)) e.place.within
+  inside : e.place.index < length (locators n)
+  inside = subst (λ (m : ℕ). e.place.index < m) (sym (locators_length n)) here
 
-  pub turn_distinct : Distinct (listed (drop k es)) → Apart (pow 2 (527 - e.place.index)) (listed (drop (k + 1) es)) × Distinct (listed (drop (k + 1) es))
-  turn_distinct d = subst Distinct (listed_more es k e h is) d
+  pub turn_distinct : Distinct (listed_in n (drop k es)) → Apart (pow 2 (n - 1 - e.place.index)) (listed_in n (drop (k + 1) es)) × Distinct (listed_in n (drop (k + 1) es))
+  turn_distinct d = subst Distinct (listed_more n es k e h is) d
 
-  pub turn_set : (line : List ℕ) → length line ≡ 528
-      → corrected (listed (drop k es)) line (locators 528)
-      ≡ corrected (listed (drop (k + 1) es)) (set line e.place.index (bit_xor (get_or line e.place.index 0) e.value)) (locators 528)
+  pub turn_set : (line : List ℕ) → length line ≡ n
+      → corrected (listed_in n (drop k es)) line (locators n)
+      ≡ corrected (listed_in n (drop (k + 1) es)) (set line e.place.index (bit_xor (get_or line e.place.index 0) e.value)) (locators n)
   turn_set line l =
-      ap (λ (ts : List Term). corrected ts line (locators 528)) (listed_more es k e h is)
-      ∙ corrected_one (as_term e) (listed (drop (k + 1) es)) line (locators 528) e.place.index
-      (l ∙ sym (locators_length 528)) (locators_differ 528 (lit≤ tt)) inside first_place
+      ap (λ (ts : List Term). corrected ts line (locators n)) (listed_more n es k e h is)
+      ∙ corrected_one (as_term n e) (listed_in n (drop (k + 1) es)) line (locators n) e.place.index
+      (l ∙ sym (locators_length n)) (locators_differ n short) inside first_place
 
   pub turn_skip : (line : List ℕ) → e.value ≡ 0
-      → corrected (listed (drop k es)) line (locators 528) ≡ corrected (listed (drop (k + 1) es)) line (locators 528)
+      → corrected (listed_in n (drop k es)) line (locators n) ≡ corrected (listed_in n (drop (k + 1) es)) line (locators n)
   turn_skip line z =
-      ap (λ (ts : List Term). corrected ts line (locators 528)) (listed_more es k e h is)
-      ∙ corrected_nothing (as_term e) (listed (drop (k + 1) es)) line (locators 528) z
+      ap (λ (ts : List Term). corrected ts line (locators n)) (listed_more n es k e h is)
+      ∙ corrected_nothing (as_term n e) (listed_in n (drop (k + 1) es)) line (locators n) z
 
-  pub turn_count : (line : List ℕ) → length line ≡ 528 → e.value ≢ 0 → Distinct (listed (drop k es))
-      → distance line (corrected (listed (drop k es)) line (locators 528))
-      ≡ 1 + distance line (corrected (listed (drop (k + 1) es)) line (locators 528))
+  pub turn_count : (line : List ℕ) → length line ≡ n → e.value ≢ 0 → Distinct (listed_in n (drop k es))
+      → distance line (corrected (listed_in n (drop k es)) line (locators n))
+      ≡ 1 + distance line (corrected (listed_in n (drop (k + 1) es)) line (locators n))
   turn_count line l nz d =
-      ap (λ (ts : List Term). distance line (corrected ts line (locators 528))) (listed_more es k e h is)
-      ∙ distance_one (as_term e) (listed (drop (k + 1) es)) line (locators 528) e.place.index
-      (l ∙ sym (locators_length 528)) (locators_differ 528 (lit≤ tt)) inside first_place nz (turn_distinct d).0
+      ap (λ (ts : List Term). distance line (corrected ts line (locators n))) (listed_more n es k e h is)
+      ∙ distance_one (as_term n e) (listed_in n (drop (k + 1) es)) line (locators n) e.place.index
+      (l ∙ sym (locators_length n)) (locators_differ n short) inside first_place nz (turn_distinct d).0
 
-pub turns_done : (es : List Error) (line : List ℕ) (k : ℕ) → length es ≤ k → corrected (listed (drop k es)) line (locators 528) ≡ line
-turns_done es line k h =
-    ap (λ (l : List Error). corrected (listed l) line (locators 528)) (drop_all k es h) ∙ corrected_none line (locators 528)
+pub turns_done : (n : ℕ) (es : List Error) (line : List ℕ) (k : ℕ) → length es ≤ k → corrected (listed_in n (drop k es)) line (locators n) ≡ line
+turns_done n es line k h =
+    ap (λ (l : List Error). corrected (listed_in n l) line (locators n)) (drop_all k es h) ∙ corrected_none line (locators n)

@@ -33,7 +33,7 @@ row_at unit j h =
     ∙ ap (scale (j * unit)) (sym below_14)
 
 -- an element is the sum of its five low and its five high bits
-mul_halves : (a b : ℕ) → bit_xor (mul (a % 32) b) (mul (a / 32 * 32) b) ≡ mul a b
+pub mul_halves : (a b : ℕ) → bit_xor (mul (a % 32) b) (mul (a / 32 * 32) b) ≡ mul a b
 mul_halves a b =
     xor_comm (mul (a % 32) b) (mul (a / 32 * 32) b)
     ∙ sym (mul_xor_l (a / 32 * 32) (a % 32) b)

@@ -46,7 +46,7 @@ room u ps n m w h b l nz z e =
     let front : length (located m ps) ≡ length ps = located_length m ps in
     omega arith
 
-found_more : (u ps : List ℕ) (n m s : ℕ) → m - 1 - s ≡ n → value (pow 2 n) u ≡ 0
+pub found_more : (u ps : List ℕ) (n m s : ℕ) → m - 1 - s ≡ n → value (pow 2 n) u ≡ 0
     → located m ps ++ roots_below u (suc n) ≡ roots_below u m
     → located m (ps ++ s ∷ []) ++ roots_below u n ≡ roots_below u m
 unfolding located
@@ -57,7 +57,7 @@ found_more u ps n m s is z e =
     (ap (λ (i : ℕ). pow 2 i ∷ roots_below u n) is ∙ sym (roots_yes u n z))
     ∙ e
 
-found_not : (u ps : List ℕ) (n m : ℕ) → value (pow 2 n) u ≢ 0
+pub found_not : (u ps : List ℕ) (n m : ℕ) → value (pow 2 n) u ≢ 0
     → located m ps ++ roots_below u (suc n) ≡ roots_below u m
     → located m ps ++ roots_below u n ≡ roots_below u m
 found_not u ps n m ne e = ap (λ (l : List ℕ). located m ps ++ l) (sym (roots_no u n ne)) ∙ e

@@ -3,9 +3,11 @@ ghost use Rattle.std.specs.Prelude.{◌≡◌, ℕ, ◌<◌, ◌≤◌, length, 
 ghost use Rattle.reed_solomon_algebra.specs.Polynomials.{Elements};
 ghost use Rattle.reed_solomon_algebra.specs.Terms.{Differ};
 ghost use Rattle.reed_solomon_decoder.specs.Errors.{Agrees, located};
-ghost use Rattle.reed_solomon_decoder.specs.Listed.{indices, places, values};
+ghost use Rattle.reed_solomon_decoder.specs.Listed.{indices, places, values, errors_of};
 ghost use Rattle.reed_solomon_decoder.specs.Decoded.{Decoded};
 
+pub use crate::answer::Errors;
+use crate::answer::MOST;
 use crate::elimination::locator;
 use crate::evaluation::{explained, value_at};
 use crate::line::{PARITY, Place};
@@ -19,11 +21,28 @@ pub struct Error {
     pub value: u16,
 }
 
-// At most seven errors.
-pub type Errors = ArrayVec<Error, 7>;
+impl Errors {
+    // The errors of this list.
+    fn of(errors: &ArrayVec<Error, MOST>) -> Errors
+        ensures { errors_of result ≡ errors.now.items }
+    {
+        let mut room = [Error::default(); MOST];
+        let count = errors.len();
+        room[..count].copy_from_slice(errors.as_slice());
+        Errors { count, room }
+    }
+
+    // The errors as a slice.
+    pub fn as_slice(&self) -> &[Error]
+        ensures value { result.now ≡ errors_of self.now }
+        ensures fits { length result.now ≤ 7 }
+    {
+        &self.room[..self.count]
+    }
+}
 
 // The errors at these places, as every explanation has them that has errors nowhere else.
-fn errors_at(s: &[u16; PARITY], found: &[Place]) -> Errors
+fn errors_at(s: &[u16; PARITY], found: &[Place]) -> ArrayVec<Error, MOST>
     requires few { length found.now ≤ 7 }
     requires differ { Differ (located 528 (indices found.now)) }
     ensures places { places result.items ≡ found.now }
@@ -46,5 +65,5 @@ pub fn decode(s: &[u16; PARITY]) -> Option<Errors>
 {
     let places = search(&locator(s));
     let errors = errors_at(s, places.as_slice());
-    explained(s, errors.as_slice()).then_some(errors)
+    explained(s, errors.as_slice()).then_some(Errors::of(&errors))
 }

@@ -4,7 +4,7 @@ ghost use Rattle.std.specs.Int.{from_bool};
 ghost use Rattle.signal.specs.Signal.{bits_of, cell, cells, field as field_bits, front, pattern, back, signal_length};
 ghost use Rattle.signal.specs.Inner.{level_before};
 
-use crate::line::level_at;
+use crate::line::level_of;
 use crate::writing::SIGNAL_BYTES;
 use std::marker::Model;
 use training::fields::bit;
@@ -53,7 +53,7 @@ impl Sender {
         requires { (1 ≤ by) × (by ≤ length self.now) }
         ensures { from_bool result ≡ slice_index self.now (length self.now - by) }
     {
-        level_at(&self.line, self.sent - by)
+        level_of(&self.line, self.sent - by)
     }
 
     // Sends one TUI; what its byte held above it is cleared.

@@ -24,7 +24,7 @@ coefficients_parts number fits k n e =
 pub coefficients_below : {X : Type 0} (number : X → ℕ) → ((x : X) → number x < 4) → (k : Coefficients X) → coefficients_number number k < 64
 coefficients_below number fits k = omega (arith, fits k.c1, fits k.c0, fits k.cm1)
 
-control_digits : (f m p i r l k : ℕ) → m < 4 → p < 2 → i < 2 → r < 2 → l < 2 → k < 64
+pub control_digits : (f m p i r l k : ℕ) → m < 4 → p < 2 → i < 2 → r < 2 → l < 2 → k < 64
     → 16384 * m + 8192 * p + 4096 * i + 2048 * r + 1024 * l + k ≡ f
     → (f / 16384 ≡ m) × (f / 8192 % 2 ≡ p) × (f / 4096 % 2 ≡ i) × (f / 2048 % 2 ≡ r) × (f / 1024 % 2 ≡ l) × (f % 64 ≡ k)
 control_digits f m p i r l k hm hp hi hr hl hk e = (omega arith, omega arith, omega arith, omega arith, omega arith, omega arith)
@@ -36,7 +36,7 @@ control_parts c f e =
     control_digits f _ _ _ _ _ _ (mark_below c.mark) (flag_below c.preset) (flag_below c.initialise) (flag_below c.fec_request) (flag_below c.parallel_lanes)
     (coefficients_below update_number update_below c.updates) e
 
-flag_of_bit : (b : ℕ) → b < 2 → from_bool (eqb b 1) ≡ b
+pub flag_of_bit : (b : ℕ) → b < 2 → from_bool (eqb b 1) ≡ b
 flag_of_bit zero h = refl
 flag_of_bit (suc zero) h = refl
 flag_of_bit (suc (suc b)) h = omega arith

@@ -26,21 +26,21 @@ loop-error-preserved c =
     let e : Error = c.error-item.result in
     let h : c.loop-error.error-index < length c.args.errors.now = c.loop-error-test.true in
     let long : length c.loop-error.line ≡ 528 = c.loop-error.invariant.4 in
-    let apart = turn_distinct es k e h c.error-item.is c.loop-error.invariant.3 in
+    let apart = turn_distinct 528 es k e h c.error-item.is (lit≤ tt) e.place.within c.loop-error.invariant.3 in
     elim c.if-error-ne0.branch [
       | then-error-ne0 w ↦ (
         ap (λ (l : List ℕ). corrected (listed (drop (k + 1) es)) l (locators 528)) w.line-is
-            ∙ sym (turn_set es k e h c.error-item.is line long) ∙ c.loop-error.invariant.0,
+            ∙ sym (turn_set 528 es k e h c.error-item.is (lit≤ tt) e.place.within line long) ∙ c.loop-error.invariant.0,
         counted c.loop-error.changed (distance old (corrected (listed (drop (k + 1) es)) old (locators 528))) _ _ _ w.changed-is
-            (turn_count es k e h c.error-item.is old c.told-line w.if-error-ne0.true c.loop-error.invariant.3) c.loop-error.invariant.1,
+            (turn_count 528 es k e h c.error-item.is (lit≤ tt) e.place.within old c.told-line w.if-error-ne0.true c.loop-error.invariant.3) c.loop-error.invariant.1,
         omega (arith, w.changed-is),
         apart.1,
         c.if-error-ne0.array_long,
       )
       | else-error-ne0 w ↦ (
         ap (λ (l : List ℕ). corrected (listed (drop (k + 1) es)) l (locators 528)) w.line-is
-            ∙ sym (turn_skip es k e h c.error-item.is line w.if-error-ne0.false) ∙ c.loop-error.invariant.0,
-        ap₂ ◌+◌ w.changed-is (ap (distance old) (sym (turn_skip es k e h c.error-item.is old w.if-error-ne0.false))) ∙ c.loop-error.invariant.1,
+            ∙ sym (turn_skip 528 es k e h c.error-item.is (lit≤ tt) e.place.within line w.if-error-ne0.false) ∙ c.loop-error.invariant.0,
+        ap₂ ◌+◌ w.changed-is (ap (distance old) (sym (turn_skip 528 es k e h c.error-item.is (lit≤ tt) e.place.within old w.if-error-ne0.false))) ∙ c.loop-error.invariant.1,
         omega (arith, w.changed-is),
         apart.1,
         c.if-error-ne0.array_long,
@@ -53,9 +53,9 @@ returns c =
     let old : List ℕ = c.args.line.now in
     let k : ℕ = c.loop-error.error-index in
     let done : c.loop-error.line ≡ corrected (listed es) old (locators 528) =
-    sym (turns_done es c.loop-error.line k (omega arith)) ∙ c.loop-error.invariant.0 in
+    sym (turns_done 528 es c.loop-error.line k (omega arith)) ∙ c.loop-error.invariant.0 in
     let none : distance old (corrected (listed (drop k es)) old (locators 528)) ≡ 0 =
-    ap (distance old) (turns_done es old k (omega arith)) ∙ distance_self old in
+    ap (distance old) (turns_done 528 es old k (omega arith)) ∙ distance_self old in
     let count : c.loop-error.changed ≡ distance old (corrected (listed es) old (locators 528)) =
     sym (add-zero c.loop-error.changed) ∙ ap (λ (n : ℕ). c.loop-error.changed + n) (sym none) ∙ c.loop-error.invariant.1 in
     record {

@@ -6,7 +6,7 @@ use Rattle.symbols.specs.Symbols.{Symbols}
 use Rattle.reed_solomon_algebra.specs.Polynomials.{value}
 use Rattle.reed_solomon_algebra.specs.CodeWords.{CodeWord, polynomial}
 use Rattle.reed_solomon_algebra.specs.Terms.{Distinct, locators, difference}
-use Rattle.reed_solomon_decoder.specs.Listed.{listed}
+use Rattle.reed_solomon_decoder.specs.Listed.{listed, errors_of}
 use Rattle.reed_solomon_decoder.specs.declared.errors.Error.{Error}
 use Rattle.reed_solomon.specs.Corrected.{corrected}
 use Rattle.reed_solomon.specs.Repaired.{Hopeless}
@@ -40,7 +40,7 @@ pub returns : goal.returns
 returns c =
     let line : List ℕ = c.args.line.now in
     let s : List ℕ = c.syndromes.result in
-    let es : List Error = c.in_ok-errors.errors.items in
+    let es : List Error = errors_of c.in_ok-errors.errors in
     let after : c.correct.new.line ≡ corrected (listed es) line (locators 528) =
     c.correct.ensures.line ∙ ap (λ (ds : List Error). corrected (listed ds) line (locators 528)) c.as_slice.ensures.value in
     record {

@@ -26,9 +26,9 @@ loop-k-preserved c =
     let i : ℕ = c.args.i in
     let k : ℕ = c.loop-k.k in
     let x : ℕ = get_or xs c.args.i 0 in
-    let here : c.locator-here.result ≡ x = c.locator-here.ensures ∙ ap (λ (p : Place). pow 2 (527 - p.index)) c.index-places-i.is ∙ sym (located_index c.args.places.now i _ c.requires.fits.0) in
+    let here : c.locator-here.result ≡ x = c.locator-here.ensures ∙ ap (λ (p : Place). pow 2 (527 - p.index)) c.index-places-i.is ∙ sym (located_index 528 c.args.places.now i _ c.requires.fits.0) in
     let there : pow 2 (527 - c.index-places-k.result.index) ≡ get_or xs c.loop-k.k 0 =
-    ap (λ (p : Place). pow 2 (527 - p.index)) c.index-places-k.is ∙ sym (located_index c.args.places.now k _ c.loop-k-test.true) in
+    ap (λ (p : Place). pow 2 (527 - p.index)) c.index-places-k.is ∙ sym (located_index 528 c.args.places.now k _ c.loop-k-test.true) in
     let up : suc k ≡ k + 1 = sym (add-one k) in
     elim c.if-k-i.branch [
       | then-k-i w ↦
@@ -57,7 +57,7 @@ pub returns-clause-value : goal.returns-clause-value
 returns-clause-value c e s cover sums =
     let xs : List ℕ = located 528 (indices c.args.places.now) in
     let i : ℕ = c.args.i in
-    let long : length xs ≡ length c.args.places.now = located_long c.args.places.now in
+    let long : length xs ≡ length c.args.places.now = located_long 528 c.args.places.now in
     let done : c.loop-k.k ≡ length xs = omega arith in
     let x : ℕ = get_or xs c.args.i 0 in
     c.product.ensures.value

@@ -9,5 +9,5 @@ returns c =
     let sent = c.args.self.now in
     let long = sent_length s.line sent s.sent (omega arith) c.self.invariant c.self.view_is in
     let place : s.sent - c.args.by ≡ length sent - c.args.by = omega arith in
-    c.level_at.ensures ∙ sent_tui s.line sent s.sent (s.sent - c.args.by) c.self.view_is (omega arith)
+    c.level_of.ensures ∙ sent_tui s.line sent s.sent (s.sent - c.args.by) c.self.view_is (omega arith)
     ∙ ap (λ (k : ℕ). get_or sent k 0) place
