@@ -77,10 +77,10 @@ impl<'a> Recording<'a> {
 
     // A level is the sum of those nine and eleven TUI before it, as in the pattern.
     fn sum_at(&self, at: usize) -> bool
-        requires { 11 ≤ at }
+        requires { (11 ≤ at) × (at < length (tui self.now)) }
         ensures { MatchBool result (SumAt (tui self.now) at) (SumAt (tui self.now) at → ⊥) }
     {
-        self.level_at(at) == (self.level_at(at - 9) != self.level_at(at - 11))
+        self.level_of(at) == (self.level_of(at - 9) != self.level_of(at - 11))
     }
 
     // The seed whose pattern stands there.

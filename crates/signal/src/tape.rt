@@ -1,9 +1,9 @@
 // Lent bytes as the recording that they hold: no more bytes than a recording may have.
-ghost use Rattle.std.specs.Prelude.{◌≡◌, ◌≤◌, length, MatchResult};
+ghost use Rattle.std.specs.Prelude.{◌≡◌, ◌<◌, ◌≤◌, length, MatchResult};
 ghost use Rattle.std.specs.Int.{from_bool};
 ghost use Rattle.signal.specs.Signal.{recording_max};
 
-use crate::line::level_at;
+use crate::line::{level_at, level_of};
 use crate::reading::RECORDING_MAX;
 use training::refusals::TrainingRefusal;
 
@@ -35,6 +35,15 @@ impl<'a> Recording<'a> {
         ensures { result ≡ length (tui self.now) }
     {
         self.bytes.len() * 8
+    }
+
+    // The level of one TUI that it has.
+    #[tactic(auto, using(crate::proofs::Bits::length_bits))]
+    pub(crate) fn level_of(&self, place: usize) -> bool
+        requires { place < length (tui self.now) }
+        ensures { from_bool result ≡ slice_index (tui self.now) place }
+    {
+        level_of(self.bytes, place)
     }
 
     // The level of one TUI; past the end it is low.
