@@ -15,7 +15,8 @@ use std::io;
 use std::io::{ErrorKind, Read};
 use text::reading::ENOUGH;
 
-// One read, tried again where a signal interrupts it.
+// One read, tried again where a signal interrupts it. The tries are counted, since a loop without an end proves nothing of what
+// it answers; no run comes to the last.
 fn read_some<R: Read>(input: &mut R, room: &mut [u8]) -> io::Result<usize>
     ensures bound { ReadsAtMost result room.new }
     ensures bytes { ReadConsumes (R.remaining input.old) (R.remaining input.new) result room.new }

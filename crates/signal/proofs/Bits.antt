@@ -1,11 +1,9 @@
 -- The TUI of bytes: how many there are, and what each is.
-use Rattle.std.proofs.Common.{◌≡◌, ℕ, zero, suc, ◌-◌, ◌*◌, ◌/◌, ◌%◌, ◌^◌, ◌<◌, ◌≤◌, Bool, false, List, [], ◌∷◌, ◌++◌, length, get_or, take, Some, None, Option, Bor, sym, refl, ap, ◌∙◌, inl, inr, pow-suc, one-add, arith, length-append, length-take-le, get_or-take, ext_get_or}
+use Rattle.std.proofs.Common.{◌≡◌, ℕ, zero, suc, ◌-◌, ◌*◌, ◌/◌, ◌%◌, ◌^◌, ◌<◌, ◌≤◌, List, [], ◌∷◌, ◌++◌, length, get_or, take, sym, refl, ap, ◌∙◌, inl, inr, pow-suc, one-add, arith, length-append, length-take-le, get_or-take, ext_get_or}
 use native.Mathlib.Nat.{zero-div}
 use Rattle.std.proofs.lemmas.Nat.{shr-shr}
 use Rattle.std.proofs.lemmas.List.{get_or_append_left, get_or-append_right, get_or_past}
 use Rattle.std.proofs.lemmas.Bool.{cases_lt}
-use Rattle.std.specs.Int.{from_bool}
-use Rattle.std.specs.Option.{unwrap_or, option_map, MatchOption}
 use Rattle.signal.specs.Signal.{least_first, bits_of}
 
 pub take_same : (xs ys : List ℕ) (n : ℕ) → n ≤ length xs → n ≤ length ys → ((k : ℕ) → k < n → get_or xs k 0 ≡ get_or ys k 0) → take n xs ≡ take n ys
@@ -70,11 +68,3 @@ get_or_bits (b ∷ bs) i = elim (cases_lt i 8) [ inl h ↦ in_first b bs i h | i
 
 pub bits_past : (bs : List ℕ) (i : ℕ) → length bs ≤ i / 8 → get_or (bits_of bs) i 0 ≡ 0
 bits_past bs i h = get_or_past (bits_of bs) i 0 (omega (arith, length_bits bs))
-
--- the level that was found of a byte that was looked for
-pub level_got : (bs : List ℕ) (i : ℕ) (level : Bool) (got : Option (Bor ℕ)) (Q : Bor ℕ → Type 0)
-    → unwrap_or (option_map (λ (x : Bor ℕ). x.now) got) 0 ≡ get_or bs (i / 8) 0 → MatchOption got (level ≡ false) Q
-    → ((x : Bor ℕ) → Q x → from_bool level ≡ x.now / 2 ^ (i % 8) % 2) → from_bool level ≡ get_or (bits_of bs) i 0
-level_got bs i level None Q e past each =
-    ap from_bool past ∙ sym (get_or_bits bs i ∙ ap (λ (x : ℕ). x / 2 ^ (i % 8) % 2) (sym e) ∙ ap (λ (y : ℕ). y % 2) (zero-div (2 ^ (i % 8))))
-level_got bs i level (Some x) Q e some each = each x some ∙ ap (λ (y : ℕ). y / 2 ^ (i % 8) % 2) e ∙ sym (get_or_bits bs i)
